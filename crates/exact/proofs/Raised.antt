@@ -1,0 +1,34 @@
+-- Raised: the least whole number not below a fraction.
+use mathlib.Core.Path.{_≡_, sym, ap}
+use mathlib.Core.Logic.{_↔_}
+use Prim.Native.Nat.{ℕ, suc, _+_, _*_, _-_, _/_, _≤_, _<_}
+use native.Mathlib.Omega.{arith}
+use native.Mathlib.Nat.{le-refl, le-of-eq, le-antisymm, suc-mul, div-lt-iff-lt-mul}
+use Rattle.exact.specs.Fraction.{Fraction, whole, _over_, _≤q_, _≈q_, raised, Least}
+use Rattle.exact.proofs.Rational.{≤q-trans}
+
+-- it is at most n just where the fraction is
+pub raised-le : (a : Fraction) (n : ℕ) → 0 < a .over → (raised a ≤ n) ↔ (a ≤q whole n)
+unfolding raised
+raised-le a n l =
+    let s : suc n * a .over ≡ n * a .over + a .over = suc-mul n (a .over) in (
+      (λ h. let k : a .plus - a .minus + (a .over - 1) < suc n * a .over = div-lt-iff-lt-mul l .0 (omega arith) in omega arith),
+      (λ h. let k : (a .plus - a .minus + (a .over - 1)) / a .over < suc n = div-lt-iff-lt-mul l .1 (omega arith) in omega arith),
+    )
+
+pub raised-least : (a : Fraction) → 0 < a .over → Least a (raised a)
+raised-least a l = record { enough = raised-le a (raised a) l .0 (le-refl (raised a)); least = λ n. raised-le a n l .1 }
+
+-- and it alone is
+pub least-raised : (a : Fraction) (q : ℕ) → 0 < a .over → Least a q → q ≡ raised a
+least-raised a q l h = let r = raised-least a l in le-antisymm (h .least (raised a) (r .enough)) (r .least q (h .enough))
+
+pub raised-mono : (a b : Fraction) → 0 < a .over → 0 < b .over → a ≤q b → raised a ≤ raised b
+raised-mono a b l m h = raised-le a (raised b) l .1 (≤q-trans a b (whole (raised b)) m h (raised-least b m .enough))
+
+pub raised-cong : {a b : Fraction} → a ≈q b → raised a ≡ raised b
+raised-cong {a} {b} e = le-antisymm (raised-mono a b (e .left) (e .right) (le-of-eq (e .equal))) (raised-mono b a (e .right) (e .left) (le-of-eq (sym (e .equal))))
+
+-- of n / d it is at most q just where q times d holds n
+pub raised-over-le : (n d q : ℕ) → 0 < d → (raised (n over d) ≤ q) ↔ (n ≤ q * d)
+raised-over-le n d q l = ((λ h. omega (arith, raised-le (n over d) q l .0 h)), (λ h. raised-le (n over d) q l .1 (omega arith)))

@@ -1,0 +1,1 @@
+// Fractions and polynomial certificates: definitions in specs/, laws in proofs/, no code.
