@@ -1,0 +1,51 @@
+-- `column::product`: no sum of halves wraps, and together they are the product.
+use borrow.Author.Needs.{needs}
+use native.Mathlib.Omega.{arith}
+use Rattle.wide.proofs.Digits.{Product, product-law}
+use Rattle.wide.proofs.column.product.Statement.{statement}
+use Rattle.wide.proofs.column.product.Tie as tie
+
+law : (c : tie.Start) → Product (c .args .d) (c .args .m) (c .args .carry)
+law c = product-law (c .args .d) (c .args .m) (c .args .carry) (c .fits .d .fits) (c .fits .m .fits) (c .fits .carry .fits)
+
+mul-s : tie.Need-mul-s
+mul-s c = omega (arith, law c .fits)
+
+add-s : tie.Need-add-s
+add-s c = omega (arith, law c .fits)
+
+mul-t : tie.Need-mul-t
+mul-t c = omega (arith, law c .fits)
+
+add-t : tie.Need-add-t
+add-t c = omega (arith, law c .fits)
+
+add-t-2 : tie.Need-add-t-2
+add-t-2 c = omega (arith, law c .fits)
+
+mul-u : tie.Need-mul-u
+mul-u c = omega (arith, law c .fits)
+
+add-u : tie.Need-add-u
+add-u c = omega (arith, law c .fits)
+
+mul-v : tie.Need-mul-v
+mul-v c = omega (arith, law c .fits)
+
+add-v : tie.Need-add-v
+add-v c = omega (arith, law c .fits)
+
+add-v-2 : tie.Need-add-v-2
+add-v-2 c = omega (arith, law c .fits)
+
+mul-t11 : tie.Need-mul-t11
+mul-t11 c = search needs
+
+add-t13 : tie.Need-add-t13
+add-t13 c = search needs
+
+returns : tie.Need-returns
+returns c = law c .value
+
+pub product-spec : {M : Type 1} → statement M
+product-spec = tie.close (tie.spec mul-s add-s mul-t add-t add-t-2 mul-u add-u mul-v add-v add-v-2 mul-t11 add-t13 returns)
