@@ -2,6 +2,9 @@
 ghost use mathlib.Core.Path.{_≡_};
 ghost use Prim.Native.Nat.{_+_, _*_, _≤_, _^_};
 
+// 2^32: a word is two halves, each below it.
+const HALF: u64 = 4294967296;
+
 pub struct Carried {
     pub word: u64,
     pub carry: u64,
@@ -11,12 +14,12 @@ pub struct Carried {
 pub fn product(d: u64, m: u64, carry: u64) -> Carried
     ensures { λ r. ⌜ r .word + 2 ^ 64 * r .carry ≡ d * m + carry ⌝ }
 {
-    let s = d % 4294967296 * (m % 4294967296) + carry % 4294967296;
-    let t = d / 4294967296 * (m % 4294967296) + s / 4294967296 + carry / 4294967296;
-    let u = d % 4294967296 * (m / 4294967296) + t % 4294967296;
-    let v = d / 4294967296 * (m / 4294967296) + t / 4294967296 + u / 4294967296;
+    let s = d % HALF * (m % HALF) + carry % HALF;
+    let t = d / HALF * (m % HALF) + s / HALF + carry / HALF;
+    let u = d % HALF * (m / HALF) + t % HALF;
+    let v = d / HALF * (m / HALF) + t / HALF + u / HALF;
     Carried {
-        word: u % 4294967296 * 4294967296 + s % 4294967296,
+        word: u % HALF * HALF + s % HALF,
         carry: v,
     }
 }

@@ -79,20 +79,11 @@ pub fn difference(a: Wide, b: Wide) -> Wide
 pub fn at_most(a: Wide, b: Wide) -> bool
     ensures { λ r. ⌜ r ≡ leb (valueOf a) (valueOf b) ⌝ }
 {
-    if a.high < b.high {
-        return true;
+    if a.high != b.high {
+        return a.high < b.high;
     }
-    if b.high < a.high {
-        return false;
+    if a.mid != b.mid {
+        return a.mid < b.mid;
     }
-    if a.mid < b.mid {
-        return true;
-    }
-    if b.mid < a.mid {
-        return false;
-    }
-    if a.low <= b.low {
-        return true;
-    }
-    false
+    a.low <= b.low
 }
