@@ -1,0 +1,13 @@
+//! The proved wide numbers, called through their archive, beside the same plan in Rust with u128 limbs.
+pub mod inputs;
+pub mod peer;
+pub mod proved;
+
+/// A number below 2^192: three digits of 64 bits, the least first.
+#[repr(C)]
+#[derive(Clone, Copy, Debug, PartialEq, Eq)]
+pub struct Wide {
+    pub low: u64,
+    pub mid: u64,
+    pub high: u64,
+}
