@@ -1,11 +1,11 @@
 -- The operations are those of the rational numbers: the laws of a field and of its order, and where whole numbers stand in it.
-use mathlib.Core.Path.{_≡_, refl, sym}
+use mathlib.Core.Path.{refl}
 use mathlib.Core.Bool.{Bool, true, false, not, cond}
 use mathlib.Core.Logic.{_↔_}
 use mathlib.Core.List.{List, [], _∷_}
 use Prim.Native.Nat.{ℕ, _+_, _*_, _-_, _≤_, _<_}
 use native.Mathlib.Omega.{arith}
-use native.Mathlib.Nat.{mul-pos, le-refl, le-of-lt, le-of-eq, le-antisymm, le-of-mul-le-mul-left, lt-of-mul-lt-mul-left, sub-pos-iff-lt}
+use native.Mathlib.Nat.{mul-pos, le-refl, le-of-lt, le-antisymm, le-of-mul-le-mul-left, lt-of-mul-lt-mul-left, sub-pos-iff-lt}
 use native.Mathlib.Numerals.{add-one}
 use lib.Dec.{T, leb→le, nleb→lt, lit<}
 use Rattle.exact.specs.Fraction.{Fraction, whole, cross, _+q_, _-q_, _*q_, _/q_, _≤q_, _<q_, _≈q_, leq, maxq}

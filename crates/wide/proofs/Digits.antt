@@ -3,7 +3,7 @@ use mathlib.Core.Path.{_≡_, refl}
 use mathlib.Core.List.{[], _∷_}
 use Prim.Native.Nat.{ℕ, _+_, _*_, _-_, _/_, _%_, _≤_, _<_, _^_}
 use native.Mathlib.Omega.{arith}
-use native.Mathlib.Nat.{mul-add, mul-le-mul, add-zero, lt-of-mul-lt-mul-left}
+use native.Mathlib.Nat.{mul-le-mul, add-zero, lt-of-mul-lt-mul-left}
 use Rattle.exact.proofs.Polynomial.{Expr, num, _⊕_, _⊗_}
 use Rattle.exact.proofs.Certificate.{x0, x1, x2, x3, x4, x5, x6, x7, x8, x9, x10, ring, done, times, equal}
 use Rattle.wide.specs.Value.{limit}

@@ -1,7 +1,7 @@
 -- The order of two wide numbers is that of the highest words that differ.
 use mathlib.Core.Path.{_≡_, sym}
 use mathlib.Core.Bool.{Bool, true, false, not}
-use Prim.Native.Nat.{ℕ, suc, _+_, _*_, _≤_, _<_, _^_}
+use Prim.Native.Nat.{ℕ, suc, _+_, _*_, _≤_, _<_}
 use native.Mathlib.Omega.{arith}
 use native.Mathlib.Nat.{le-refl, le-of-lt, add-le-add, add-lt-add-of-lt-of-le}
 use borrow.Author.Tests.{le-leb, lt-leb}

@@ -1,6 +1,5 @@
 -- `funnel`: the shifted words are the quotient by 2 ^ s.
 use borrow.Author.Needs.{needs}
-use Prim.Native.Nat.{_+_, _*_, _-_, _/_, _%_, _^_, _<_}
 use native.Mathlib.Omega.{arith}
 use Rattle.wide.proofs.Division.{funnel-law, funnel-fits, funnel-none, funnel-all}
 use Rattle.wide.proofs.quotient.funnel.Statement.{statement}

@@ -1,11 +1,11 @@
 -- `quotient_up`: what is left and q times d stay n together, so where no d is left over, q or one more is the least.
 use mathlib.Core.Path.{_≡_, refl, sym, ap, _∙_}
-use Prim.Native.Nat.{ℕ, _+_, _*_, _-_, _<_, _≤_, _^_}
+use Prim.Native.Nat.{ℕ, _+_, _*_, _-_, _<_, _≤_}
 use borrow.Author.Needs.{needs}
 use borrow.Author.Tests.{leb-true, leb-false, not-true, not-false}
 use native.Mathlib.Omega.{arith}
 use native.Mathlib.Nat.{mul-comm, add-mul, one-mul, le-of-lt, lt-of-le-of-lt}
-use Rattle.wide.specs.Value.{valueOf, limit}
+use Rattle.wide.specs.Value.{valueOf}
 use Rattle.wide.proofs.Order.{value-below}
 use Rattle.wide.proofs.Division.{quotient-small, quotient-smaller, least-exact, least-more}
 use Rattle.wide.proofs.quotient.quotient_up.Statement.{statement}
