@@ -1,6 +1,7 @@
 pub mod Polynomial
 pub mod Certificate
 pub mod Shape
-pub mod Equality
-pub mod Rational
+pub mod Order
+pub mod Field
+pub mod Substitution
 pub mod Raised

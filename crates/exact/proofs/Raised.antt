@@ -5,7 +5,7 @@ use Prim.Native.Nat.{ℕ, suc, _+_, _*_, _-_, _/_, _≤_, _<_}
 use native.Mathlib.Omega.{arith}
 use native.Mathlib.Nat.{le-refl, le-of-eq, le-antisymm, suc-mul, div-lt-iff-lt-mul}
 use Rattle.exact.specs.Fraction.{Fraction, whole, _over_, _≤q_, _≈q_, raised, Least}
-use Rattle.exact.proofs.Rational.{≤q-trans}
+use Rattle.exact.proofs.Order.{≤q-trans}
 
 -- it is at most n just where the fraction is
 pub raised-le : (a : Fraction) (n : ℕ) → 0 < a .over → (raised a ≤ n) ↔ (a ≤q whole n)

@@ -1,4 +1,4 @@
--- Equality of fractions is an equivalence; order, the operations and the larger of two respect it.
+-- Equality of fractions is an equivalence, and equals may stand for equals in every operation and order.
 use mathlib.Core.Path.{_≡_, refl, sym, ap, _∙_}
 use mathlib.Core.Bool.{Bool, true, false, not, cond}
 use mathlib.Core.List.{List, [], _∷_}
