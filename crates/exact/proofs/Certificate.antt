@@ -1,11 +1,11 @@
 -- Polynomial identities, equations and inequalities over the native numbers, shown by computation: `ring`, `equal` and `cert`.
 use mathlib.Core.Path.{_≡_, refl, sym, ap, ap₂, _∙_}
 use mathlib.Core.List.{List, [], _∷_}
-use mathlib.Core.Bool.{true, false}
-use Prim.Native.Nat.{ℕ, _+_, _*_, _-_, _≤_}
+use lib.ListN.{length}
+use Prim.Native.Nat.{ℕ, zero, suc, _+_, _*_, _-_, _≤_}
 use native.Mathlib.Omega.{arith}
 use native.Mathlib.Nat.{le-refl, add-le-add, mul-le-mul-left}
-use Rattle.exact.proofs.Polynomial.{Expr, var, num, _⊕_, _⊗_, eval, Term, term, value, same, add, add-is, normal, normal-is}
+use Rattle.exact.proofs.Polynomial.{Expr, var, num, _⊕_, _⊗_, eval, Poly, add, normal, value, add-is, normal-is}
 
 abbrev pub x0 : Expr
 x0 = var 0
@@ -47,8 +47,8 @@ abbrev pub x12 : Expr
 x12 = var 12
 
 -- an identity: both sides have one normal form
-pub ring : (ρ : List ℕ) (a b : Expr) → normal a ≡ normal b → eval ρ a ≡ eval ρ b
-ring ρ a b h = sym (normal-is ρ a) ∙ (ap (λ (p : List Term). value ρ p) h ∙ normal-is ρ b)
+pub ring : (ρ : List ℕ) (a b : Expr) → normal (length ρ) a ≡ normal (length ρ) b → eval ρ a ≡ eval ρ b
+ring ρ a b h = sym (normal-is ρ a) ∙ (ap (value ρ) h ∙ normal-is ρ b)
 
 -- known facts l R r, R being ≡ or ≤, each with the factor that it is used with
 pub data Facts (R : ℕ → ℕ → Type 0) (ρ : List ℕ) : Type 0 where
@@ -73,30 +73,31 @@ facts-le done = le-refl 0
 facts-le {ρ} (times e l r h f) = add-le-add (mul-le-mul-left (eval ρ e) h) (facts-le f)
 
 -- a ≡ b from equations: a + Σ e r and b + Σ e l have one normal form
-pub equal : (ρ : List ℕ) (f : Facts _≡_ ρ) (a b : Expr) → normal (a ⊕ right f) ≡ normal (b ⊕ left f) → eval ρ a ≡ eval ρ b
+pub equal : (ρ : List ℕ) (f : Facts _≡_ ρ) (a b : Expr) → normal (length ρ) (a ⊕ right f) ≡ normal (length ρ) (b ⊕ left f) → eval ρ a ≡ eval ρ b
 equal ρ f a b h =
     let s : eval ρ a + eval ρ (right f) ≡ eval ρ b + eval ρ (left f) = ring ρ (a ⊕ right f) (b ⊕ left f) h in
     let k : eval ρ (left f) ≡ eval ρ (right f) = facts-equal f in
     omega arith
 
--- what is left of q when p is taken from it, term by term: a guess, right where p added to it gives q again
-abbrev drop : ℕ → List ℕ → List Term → List Term
-drop c m [] = []
-drop c m (term d n ∷ q) = elim (same m n) [ true ↦ term (d - c) n ∷ q | false ↦ term d n ∷ drop c m q ]
+-- what is left of q when p is taken from it, coefficient by coefficient: a guess, right where p added to it gives q again
+abbrev taken : {A : Type 0} → (A → A → A) → List A → List A → List A
+taken f [] p = []
+taken f (b ∷ q) [] = b ∷ q
+taken f (b ∷ q) (a ∷ p) = f b a ∷ taken f q p
 
-abbrev less : List Term → List Term → List Term
-less q [] = q
-less q (term c m ∷ p) = less (drop c m q) p
+abbrev less : (n : ℕ) → Poly n → Poly n → Poly n
+less zero b a = b - a
+less (suc n) q p = taken (less n) q p
 
-abbrev pub Covers : List Term → List Term → Type 0
-Covers p q = add p (less q p) ≡ q
+abbrev pub Covers : (n : ℕ) → Poly n → Poly n → Type 0
+Covers n p q = add n p (less n q p) ≡ q
 
 -- a ≤ b from inequalities: b + Σ e l is a + Σ e r and more
-pub cert : (ρ : List ℕ) (f : Facts _≤_ ρ) (a b : Expr) → Covers (normal (a ⊕ right f)) (normal (b ⊕ left f)) → eval ρ a ≤ eval ρ b
+pub cert : (ρ : List ℕ) (f : Facts _≤_ ρ) (a b : Expr) → Covers (length ρ) (normal (length ρ) (a ⊕ right f)) (normal (length ρ) (b ⊕ left f)) → eval ρ a ≤ eval ρ b
 cert ρ f a b h =
-    let p : List Term = normal (a ⊕ right f) in
-    let q : List Term = normal (b ⊕ left f) in
-    let e : value ρ p + value ρ (less q p) ≡ value ρ q = sym (add-is ρ p (less q p)) ∙ ap (λ (t : List Term). value ρ t) h in
+    let p : Poly (length ρ) = normal (length ρ) (a ⊕ right f) in
+    let q : Poly (length ρ) = normal (length ρ) (b ⊕ left f) in
+    let e : value ρ p + value ρ (less (length ρ) q p) ≡ value ρ q = sym (add-is ρ p (less (length ρ) q p)) ∙ ap (value ρ) h in
     let s : value ρ p ≡ eval ρ a + eval ρ (right f) = normal-is ρ (a ⊕ right f) in
     let t : value ρ q ≡ eval ρ b + eval ρ (left f) = normal-is ρ (b ⊕ left f) in
     let k : eval ρ (left f) ≤ eval ρ (right f) = facts-le f in

@@ -1,11 +1,12 @@
 -- Polynomials in numbered unknowns: an expression has the value of its normal form, so equal normal forms mean equal values.
 use mathlib.Core.Path.{_≡_, refl, sym, ap₂, _∙_}
 use mathlib.Core.List.{List, [], _∷_}
-use mathlib.Core.Bool.{Bool, true, false, cond, _&&_}
-use Prim.Native.Nat.{ℕ, _+_, _*_}
-use native.Mathlib.Nat.{add-zero, zero-add, add-assoc, add-left-comm, zero-mul, mul-zero, mul-one, one-mul, mul-add, add-mul, mul-assoc, mul-left-comm}
-use lib.ListN.{getD}
-use lib.Dec.{T, eqb, ltb, eqb→eq}
+use mathlib.Core.Bool.{Bool, true, false}
+use Prim.Native.Nat.{ℕ, zero, suc, _+_, _*_}
+use native.Mathlib.Omega.{arith}
+use native.Mathlib.Nat.{add-zero, zero-add, zero-mul, mul-zero, mul-add, add-mul, mul-assoc, mul-left-comm}
+use lib.ListN.{getD, length}
+use lib.Dec.{T, eqb, eqb→eq}
 
 pub data Expr : Type 0 where
   var : ℕ → Expr
@@ -18,141 +19,142 @@ infixl 70 _⊗_
 -- its value, the unknowns being those of ρ, from 0
 abbrev pub eval : List ℕ → Expr → ℕ
 eval ρ (var i) = getD ρ i 0
-eval ρ (num n) = n
+eval ρ (num c) = c
 eval ρ (a ⊕ b) = eval ρ a + eval ρ b
 eval ρ (a ⊗ b) = eval ρ a * eval ρ b
 
--- a number times unknowns, named in rising order; a normal form is a list of terms with their unknowns in order, none twice
-pub data Term : Type 0 where
-  term : ℕ → List ℕ → Term
+-- A normal form in n unknowns: the coefficients of the powers of the first, from the lowest, each in the n - 1 others. No list ends
+-- in a 0, since sums and products of numbers above 0 are above 0, so that equal polynomials come out alike; nothing proved rests on that.
+abbrev pub Poly : ℕ → Type 0
+Poly zero = ℕ
+Poly (suc n) = List (Poly n)
 
-abbrev pub monomial : List ℕ → List ℕ → ℕ
-monomial ρ [] = 1
-monomial ρ (i ∷ m) = getD ρ i 0 * monomial ρ m
+abbrev none : (n : ℕ) → Poly n
+none zero = 0
+none (suc n) = []
 
-abbrev pub value : List ℕ → List Term → ℕ
-value ρ [] = 0
-value ρ (term c m ∷ p) = c * monomial ρ m + value ρ p
+abbrev constant : (n : ℕ) → ℕ → Poly n
+constant zero c = c
+constant (suc n) c = elim (eqb c 0) [ true ↦ [] | false ↦ constant n c ∷ [] ]
 
-abbrev pub same : List ℕ → List ℕ → Bool
-same [] [] = true
-same [] (j ∷ n) = false
-same (i ∷ m) [] = false
-same (i ∷ m) (j ∷ n) = eqb i j && same m n
+abbrev unknown : (n : ℕ) → ℕ → Poly n
+unknown zero i = 0
+unknown (suc n) zero = none n ∷ constant n 1 ∷ []
+unknown (suc n) (suc i) = unknown n i ∷ []
 
-abbrev before : List ℕ → List ℕ → Bool
-before [] [] = false
-before [] (j ∷ n) = true
-before (i ∷ m) [] = false
-before (i ∷ m) (j ∷ n) = cond (eqb i j) (before m n) (ltb i j)
+abbrev isNone : (n : ℕ) → Poly n → Bool
+isNone zero c = eqb c 0
+isNone (suc n) [] = true
+isNone (suc n) (a ∷ p) = false
 
--- one term more; the cases of an `elim` wait, so the walk ends where the term finds its place
-abbrev insert : ℕ → List ℕ → List Term → List Term
-insert c m [] = term c m ∷ []
-insert c m (term d n ∷ p) =
-    elim (same m n) [
-      | true ↦ term (c + d) n ∷ p
-      | false ↦ elim (before m n) [ true ↦ term c m ∷ term d n ∷ p | false ↦ term d n ∷ insert c m p ]
-    ]
+-- lists of coefficients: their sum, a multiple, a shift by one power, and their product
+module _ {A : Type 0} where
+  abbrev pub both : (A → A → A) → List A → List A → List A
+  both f [] q = q
+  both f (a ∷ p) [] = a ∷ p
+  both f (a ∷ p) (b ∷ q) = f a b ∷ both f p q
 
-abbrev pub add : List Term → List Term → List Term
-add [] q = q
-add (term c m ∷ p) q = insert c m (add p q)
+  abbrev each : (A → A) → List A → List A
+  each g [] = []
+  each g (b ∷ q) = g b ∷ each g q
 
--- one unknown more in a monomial, and the product of two
-abbrev place : ℕ → List ℕ → List ℕ
-place i [] = i ∷ []
-place i (j ∷ m) = cond (ltb j i) (j ∷ place i m) (i ∷ j ∷ m)
+  abbrev multiple : Bool → (A → A) → List A → List A
+  multiple true g q = []
+  multiple false g q = each g q
 
-abbrev join : List ℕ → List ℕ → List ℕ
-join [] n = n
-join (i ∷ m) n = place i (join m n)
+  abbrev shifted : A → List A → List A
+  shifted z [] = []
+  shifted z (a ∷ p) = z ∷ a ∷ p
 
-abbrev scale : ℕ → List ℕ → List Term → List Term
-scale c m [] = []
-scale c m (term d n ∷ p) = insert (c * d) (join m n) (scale c m p)
+  abbrev convolved : A → (A → Bool) → (A → A → A) → (A → A → A) → List A → List A → List A
+  convolved z s f g [] q = []
+  convolved z s f g (a ∷ p) q = both f (multiple (s a) (g a) q) (shifted z (convolved z s f g p q))
 
-abbrev multiply : List Term → List Term → List Term
-multiply [] q = []
-multiply (term c m ∷ p) q = add (scale c m q) (multiply p q)
+abbrev pub add : (n : ℕ) → Poly n → Poly n → Poly n
+add zero a b = a + b
+add (suc n) p q = both (add n) p q
 
-abbrev constant : ℕ → List Term
-constant n = cond (eqb n 0) [] (term n [] ∷ [])
+abbrev multiply : (n : ℕ) → Poly n → Poly n → Poly n
+multiply zero a b = a * b
+multiply (suc n) p q = convolved (none n) (isNone n) (add n) (multiply n) p q
 
-abbrev pub normal : Expr → List Term
-normal (var i) = term 1 (i ∷ []) ∷ []
-normal (num n) = constant n
-normal (a ⊕ b) = add (normal a) (normal b)
-normal (a ⊗ b) = multiply (normal a) (normal b)
+abbrev pub normal : (n : ℕ) → Expr → Poly n
+normal n (var i) = unknown n i
+normal n (num c) = constant n c
+normal n (a ⊕ b) = add n (normal n a) (normal n b)
+normal n (a ⊗ b) = multiply n (normal n a) (normal n b)
 
-both-left : (a b : Bool) → T (a && b) → T a
-both-left true b h = tt
-both-left false b h = h
+-- the value of a list of coefficients at x, v giving theirs
+module _ {A : Type 0} (v : A → ℕ) (x : ℕ) where
+  abbrev pub horner : List A → ℕ
+  horner [] = 0
+  horner (a ∷ p) = v a + x * horner p
 
-both-right : (a b : Bool) → T (a && b) → T b
-both-right true b h = h
-both-right false b h = absurd h
+  both-is : (f : A → A → A) → ((a b : A) → v (f a b) ≡ v a + v b) → (p q : List A) → horner (both f p q) ≡ horner p + horner q
+  both-is f h [] q = sym (zero-add (horner q))
+  both-is f h (a ∷ p) [] = sym (add-zero (horner (a ∷ p)))
+  both-is f h (a ∷ p) (b ∷ q) =
+      let e : x * (horner p + horner q) ≡ x * horner p + x * horner q = mul-add x (horner p) (horner q) in
+      rw (h a b, both-is f h p q) (omega arith)
 
-same-is : (ρ m n : List ℕ) → T (same m n) → monomial ρ m ≡ monomial ρ n
-same-is ρ [] [] h = refl
-same-is ρ [] (j ∷ n) h = absurd h
-same-is ρ (i ∷ m) [] h = absurd h
-same-is ρ (i ∷ m) (j ∷ n) h =
-    ap₂ (λ (x y : ℕ). getD ρ x 0 * y) (eqb→eq i j (both-left (eqb i j) (same m n) h)) (same-is ρ m n (both-right (eqb i j) (same m n) h))
+  each-is : (g : A → A) (k : ℕ) → ((b : A) → v (g b) ≡ k * v b) → (q : List A) → horner (each g q) ≡ k * horner q
+  each-is g k h [] = sym (mul-zero k)
+  each-is g k h (b ∷ q) =
+      let e : k * (v b + x * horner q) ≡ k * v b + k * (x * horner q) = mul-add k (v b) (x * horner q) in
+      let f : x * (k * horner q) ≡ k * (x * horner q) = mul-left-comm x k (horner q) in
+      rw (h b, each-is g k h q) (omega arith)
 
-insert-is : (ρ : List ℕ) (c : ℕ) (m : List ℕ) (p : List Term) → value ρ (insert c m p) ≡ c * monomial ρ m + value ρ p
-insert-is ρ c m [] = refl
-insert-is ρ c m (term d n ∷ p) = first (same m n) (before m n) (λ h. same-is ρ m n h) (insert-is ρ c m p)
+  multiple-is : (s : Bool) (g : A → A) (k : ℕ) → (T s → k ≡ 0) → ((b : A) → v (g b) ≡ k * v b) → (q : List A) → horner (multiple s g q) ≡ k * horner q
+  multiple-is true g k z h q = rw (z tt) (sym (zero-mul (horner q)))
+  multiple-is false g k z h q = each-is g k h q
+
+  shifted-is : (z : A) → v z ≡ 0 → (p : List A) → horner (shifted z p) ≡ x * horner p
+  shifted-is z h [] = sym (mul-zero x)
+  shifted-is z h (a ∷ p) = rw h (zero-add (x * horner (a ∷ p)))
+
+  convolved-is : (z : A) (s : A → Bool) (f g : A → A → A) → v z ≡ 0 → ((a : A) → T (s a) → v a ≡ 0) → ((a b : A) → v (f a b) ≡ v a + v b) → ((a b : A) → v (g a b) ≡ v a * v b) → (p q : List A) → horner (convolved z s f g p q) ≡ horner p * horner q
+  convolved-is z s f g hz hs hf hg [] q = sym (zero-mul (horner q))
+  convolved-is z s f g hz hs hf hg (a ∷ p) q =
+      both-is f hf (multiple (s a) (g a) q) (shifted z (convolved z s f g p q))
+      ∙ (rw (multiple-is (s a) (g a) (v a) (hs a) (hg a) q, shifted-is z hz (convolved z s f g p q), convolved-is z s f g hz hs hf hg p q, add-mul, mul-assoc) refl)
+
+abbrev pub value : (ρ : List ℕ) → Poly (length ρ) → ℕ
+value [] c = c
+value (x ∷ ρ) p = horner (value ρ) x p
+
+none-is : (ρ : List ℕ) → value ρ (none (length ρ)) ≡ 0
+none-is [] = refl
+none-is (x ∷ ρ) = refl
+
+isNone-is : (ρ : List ℕ) (p : Poly (length ρ)) → T (isNone (length ρ) p) → value ρ p ≡ 0
+isNone-is [] c h = eqb→eq c 0 h
+isNone-is (x ∷ ρ) [] h = refl
+isNone-is (x ∷ ρ) (a ∷ p) h = absurd h
+
+constant-is : (ρ : List ℕ) (c : ℕ) → value ρ (constant (length ρ) c) ≡ c
+constant-is [] c = refl
+constant-is (x ∷ ρ) c = go (eqb c 0) (λ h. eqb→eq c 0 h) (constant-is ρ c)
   where
-    second : (b : Bool) → value ρ (insert c m p) ≡ c * monomial ρ m + value ρ p → value ρ (elim b [ true ↦ term c m ∷ term d n ∷ p | false ↦ term d n ∷ insert c m p ]) ≡ c * monomial ρ m + (d * monomial ρ n + value ρ p)
-    second true e = refl
-    second false e = rw e (add-left-comm (d * monomial ρ n) (c * monomial ρ m) (value ρ p))
+    go : (b : Bool) → (T b → c ≡ 0) → value ρ (constant (length ρ) c) ≡ c → horner (value ρ) x (elim b [ true ↦ [] | false ↦ constant (length ρ) c ∷ [] ]) ≡ c
+    go true h e = sym (h tt)
+    go false h e = rw (e, mul-zero, add-zero) refl
 
-    first : (a b : Bool) → (T a → monomial ρ m ≡ monomial ρ n) → value ρ (insert c m p) ≡ c * monomial ρ m + value ρ p → value ρ (elim a [ true ↦ term (c + d) n ∷ p | false ↦ elim b [ true ↦ term c m ∷ term d n ∷ p | false ↦ term d n ∷ insert c m p ] ]) ≡ c * monomial ρ m + (d * monomial ρ n + value ρ p)
-    first true b h e = rw (h tt) (rw add-mul (add-assoc (c * monomial ρ n) (d * monomial ρ n) (value ρ p)))
-    first false b h e = second b e
+unknown-is : (ρ : List ℕ) (i : ℕ) → value ρ (unknown (length ρ) i) ≡ getD ρ i 0
+unknown-is [] i = refl
+unknown-is (x ∷ ρ) zero = rw (none-is ρ, constant-is ρ 1) (omega arith)
+unknown-is (x ∷ ρ) (suc i) = rw (unknown-is ρ i) (omega arith)
 
-pub add-is : (ρ : List ℕ) (p q : List Term) → value ρ (add p q) ≡ value ρ p + value ρ q
-add-is ρ [] q = sym (zero-add (value ρ q))
-add-is ρ (term c m ∷ p) q =
-    insert-is ρ c m (add p q) ∙ (rw (add-is ρ p q) (sym (add-assoc (c * monomial ρ m) (value ρ p) (value ρ q))))
+pub add-is : (ρ : List ℕ) (p q : Poly (length ρ)) → value ρ (add (length ρ) p q) ≡ value ρ p + value ρ q
+add-is [] a b = refl
+add-is (x ∷ ρ) p q = both-is (value ρ) x (add (length ρ)) (add-is ρ) p q
 
-place-is : (ρ : List ℕ) (i : ℕ) (m : List ℕ) → monomial ρ (place i m) ≡ getD ρ i 0 * monomial ρ m
-place-is ρ i [] = refl
-place-is ρ i (j ∷ m) = go (ltb j i) (place-is ρ i m)
-  where
-    go : (b : Bool) → monomial ρ (place i m) ≡ getD ρ i 0 * monomial ρ m → monomial ρ (cond b (j ∷ place i m) (i ∷ j ∷ m)) ≡ getD ρ i 0 * (getD ρ j 0 * monomial ρ m)
-    go true e = rw e (mul-left-comm (getD ρ j 0) (getD ρ i 0) (monomial ρ m))
-    go false e = refl
+multiply-is : (ρ : List ℕ) (p q : Poly (length ρ)) → value ρ (multiply (length ρ) p q) ≡ value ρ p * value ρ q
+multiply-is [] a b = refl
+multiply-is (x ∷ ρ) p q =
+    convolved-is (value ρ) x (none (length ρ)) (isNone (length ρ)) (add (length ρ)) (multiply (length ρ)) (none-is ρ) (isNone-is ρ) (add-is ρ) (multiply-is ρ) p q
 
-join-is : (ρ m n : List ℕ) → monomial ρ (join m n) ≡ monomial ρ m * monomial ρ n
-join-is ρ [] n = sym (one-mul (monomial ρ n))
-join-is ρ (i ∷ m) n = place-is ρ i (join m n) ∙ (rw (join-is ρ m n) (sym (mul-assoc (getD ρ i 0) (monomial ρ m) (monomial ρ n))))
-
-regroup : (c d m n : ℕ) → c * d * (m * n) ≡ c * m * (d * n)
-regroup c d m n = simp (mul-assoc, mul-left-comm)
-
-scale-is : (ρ : List ℕ) (c : ℕ) (m : List ℕ) (q : List Term) → value ρ (scale c m q) ≡ c * monomial ρ m * value ρ q
-scale-is ρ c m [] = sym (mul-zero (c * monomial ρ m))
-scale-is ρ c m (term d n ∷ q) =
-    insert-is ρ (c * d) (join m n) (scale c m q)
-    ∙ (rw (join-is ρ m n, scale-is ρ c m q, regroup c d (monomial ρ m) (monomial ρ n)) (sym (mul-add (c * monomial ρ m) (d * monomial ρ n) (value ρ q))))
-
-multiply-is : (ρ : List ℕ) (p q : List Term) → value ρ (multiply p q) ≡ value ρ p * value ρ q
-multiply-is ρ [] q = sym (zero-mul (value ρ q))
-multiply-is ρ (term c m ∷ p) q =
-    add-is ρ (scale c m q) (multiply p q)
-    ∙ (rw (scale-is ρ c m q, multiply-is ρ p q) (sym (add-mul (c * monomial ρ m) (value ρ p) (value ρ q))))
-
-constant-is : (ρ : List ℕ) (n : ℕ) → value ρ (constant n) ≡ n
-constant-is ρ n = go (eqb n 0) (λ h. eqb→eq n 0 h)
-  where
-    go : (b : Bool) → (T b → n ≡ 0) → value ρ (cond b [] (term n [] ∷ [])) ≡ n
-    go true h = sym (h tt)
-    go false h = add-zero (n * 1) ∙ mul-one n
-
-pub normal-is : (ρ : List ℕ) (e : Expr) → value ρ (normal e) ≡ eval ρ e
-normal-is ρ (var i) = add-zero (1 * (getD ρ i 0 * 1)) ∙ (one-mul (getD ρ i 0 * 1) ∙ mul-one (getD ρ i 0))
-normal-is ρ (num n) = constant-is ρ n
-normal-is ρ (a ⊕ b) = add-is ρ (normal a) (normal b) ∙ ap₂ (λ (x y : ℕ). x + y) (normal-is ρ a) (normal-is ρ b)
-normal-is ρ (a ⊗ b) = multiply-is ρ (normal a) (normal b) ∙ ap₂ (λ (x y : ℕ). x * y) (normal-is ρ a) (normal-is ρ b)
+pub normal-is : (ρ : List ℕ) (e : Expr) → value ρ (normal (length ρ) e) ≡ eval ρ e
+normal-is ρ (var i) = unknown-is ρ i
+normal-is ρ (num c) = constant-is ρ c
+normal-is ρ (a ⊕ b) = add-is ρ (normal (length ρ) a) (normal (length ρ) b) ∙ ap₂ (λ (x y : ℕ). x + y) (normal-is ρ a) (normal-is ρ b)
+normal-is ρ (a ⊗ b) = multiply-is ρ (normal (length ρ) a) (normal (length ρ) b) ∙ ap₂ (λ (x y : ℕ). x * y) (normal-is ρ a) (normal-is ρ b)

@@ -1,6 +1,7 @@
 -- Fractions of polynomials, by which an equality of fractions is shown by computation.
 use mathlib.Core.Path.{_≡_}
 use mathlib.Core.List.{List, [], _∷_}
+use lib.ListN.{length}
 use Prim.Native.Nat.{ℕ, _<_}
 use Rattle.exact.specs.Fraction.{Fraction, _≈q_}
 use Rattle.exact.proofs.Polynomial.{Expr, num, _⊕_, _⊗_, eval, normal}
@@ -39,7 +40,7 @@ abbrev pub at : List ℕ → Shape → Fraction
 at ρ f = record { plus = eval ρ (f .plus); minus = eval ρ (f .minus); over = eval ρ (f .over) }
 
 -- an equality of two shapes, from equations
-pub alike : (ρ : List ℕ) (q : Facts _≡_ ρ) (f g : Shape) → 0 < eval ρ (f .over) → 0 < eval ρ (g .over) → normal (crossE f g ⊕ right q) ≡ normal (crossE g f ⊕ left q) → at ρ f ≈q at ρ g
+pub alike : (ρ : List ℕ) (q : Facts _≡_ ρ) (f g : Shape) → 0 < eval ρ (f .over) → 0 < eval ρ (g .over) → normal (length ρ) (crossE f g ⊕ right q) ≡ normal (length ρ) (crossE g f ⊕ left q) → at ρ f ≈q at ρ g
 alike ρ q f g l m h = record { left = l; right = m; equal = equal ρ q (crossE f g) (crossE g f) h }
 
 -- four fractions as unknowns: A is a at env a b c d, and so on

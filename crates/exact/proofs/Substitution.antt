@@ -2,6 +2,7 @@
 use mathlib.Core.Path.{_≡_, refl, sym, ap, _∙_}
 use mathlib.Core.Bool.{Bool, true, false, not, cond}
 use mathlib.Core.List.{List, [], _∷_}
+use lib.ListN.{length}
 use Prim.Native.Nat.{ℕ, _+_, _*_, _-_, _≤_, _<_, max}
 use native.Mathlib.Omega.{arith}
 use native.Mathlib.Nat.{mul-pos, le-of-eq, eq-of-mul-eq-mul-left, le-of-mul-le-mul-left, le-of-mul-le-mul-right, mul-lt-mul-of-pos-right, lt-of-mul-lt-mul-left, lt-of-mul-lt-mul-right, sub-pos-iff-lt, sub-zero, zero-mul, add-mul}
@@ -27,7 +28,7 @@ pub ≈q-trans : {a b c : Fraction} → a ≈q b → b ≈q c → a ≈q c
 }
 
 -- x is f at ρ, and f is g by computation, so x is g at ρ
-pub becomes : {x : Fraction} (ρ : List ℕ) (q : Facts _≡_ ρ) (f g : Shape) → x ≈q at ρ f → 0 < eval ρ (g .over) → normal (crossE f g ⊕ right q) ≡ normal (crossE g f ⊕ left q) → x ≈q at ρ g
+pub becomes : {x : Fraction} (ρ : List ℕ) (q : Facts _≡_ ρ) (f g : Shape) → x ≈q at ρ f → 0 < eval ρ (g .over) → normal (length ρ) (crossE f g ⊕ right q) ≡ normal (length ρ) (crossE g f ⊕ left q) → x ≈q at ρ g
 becomes ρ q f g e l h = ≈q-trans e (alike ρ q f g (e .right) l h)
 
 -- a choice is c where each of its arms is
