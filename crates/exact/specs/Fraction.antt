@@ -4,7 +4,7 @@ use mathlib.Core.Path.{_≡_}
 use Prim.Native.Nat.{ℕ, _+_, _*_, _-_, _/_, _≤_, _<_}
 use lib.Dec.{leb}
 
--- (plus - minus) / over. It stands for a number where `over` is above 0, and each law asks for that.
+-- (plus - minus) / over, not reduced. It stands for a number where `over` is above 0.
 pub record Fraction : Type 0 where
   pub plus : ℕ
   pub minus : ℕ
@@ -33,7 +33,7 @@ a -q b = a +q record { plus = b .minus; minus = b .plus; over = b .over }
 abbrev pub _*q_ : Fraction → Fraction → Fraction
 a *q b = record { plus = a .plus * b .plus + a .minus * b .minus; minus = a .plus * b .minus + a .minus * b .plus; over = a .over * b .over }
 
--- a / b where b is above 0. Elsewhere `over` comes out 0, which stands for no number: no law speaks of it and nothing rests on it.
+-- a / b where b is above 0. Elsewhere `over` comes out 0, which stands for no number: no law says what it is worth, and nothing rests on it.
 abbrev pub _/q_ : Fraction → Fraction → Fraction
 a /q b = record { plus = a .plus * b .over; minus = a .minus * b .over; over = a .over * (b .plus - b .minus) }
 
