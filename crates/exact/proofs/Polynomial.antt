@@ -49,7 +49,7 @@ isNone (suc n) (a ∷ p) = false
 
 -- lists of coefficients: their sum, a multiple, a shift by one power, and their product
 module _ {A : Type 0} where
-  abbrev pub both : (A → A → A) → List A → List A → List A
+  abbrev both : (A → A → A) → List A → List A → List A
   both f [] q = q
   both f (a ∷ p) [] = a ∷ p
   both f (a ∷ p) (b ∷ q) = f a b ∷ both f p q
@@ -86,7 +86,7 @@ normal n (a ⊗ b) = multiply n (normal n a) (normal n b)
 
 -- the value of a list of coefficients at x, v giving theirs
 module _ {A : Type 0} (v : A → ℕ) (x : ℕ) where
-  abbrev pub horner : List A → ℕ
+  abbrev horner : List A → ℕ
   horner [] = 0
   horner (a ∷ p) = v a + x * horner p
 

@@ -31,6 +31,10 @@ borrow-fits r c x y l X Y h e f = omega arith
 abbrev three : Expr → Expr → Expr → Expr
 three x y z = x ⊕ num W ⊗ (y ⊕ num W ⊗ z)
 
+-- a word alone
+pub one-word : (x : ℕ) → x + W * (0 + W * 0) ≡ x
+one-word x = ring (x ∷ []) (three x0 (num 0) (num 0)) x0 refl
+
 -- one column is two words
 pub two-words : (a b r c : ℕ) → r + W * c ≡ a * b + 0 → r + W * (c + W * 0) ≡ a * b
 two-words a b r c h = equal (a ∷ b ∷ r ∷ c ∷ []) (times (num 1) (x2 ⊕ num W ⊗ x3) (x0 ⊗ x1 ⊕ num 0) h done) (three x2 x3 (num 0)) (x0 ⊗ x1) refl

@@ -1,4 +1,4 @@
-// The least quotient not below. A lower estimate makes it quick; that it is right rests on the last comparisons alone.
+// The least quotient not below, counted up from an estimate. Of the estimate it needs only that it is not too high; how near it is decides the speed alone.
 ghost use mathlib.Core.Path.{_≡_};
 ghost use Prim.Native.Nat.{_+_, _*_, _/_, _<_, _≤_, _^_};
 ghost use Rattle.exact.specs.Fraction.{_over_, raised};

@@ -103,23 +103,28 @@ fn sums_differences_and_order() {
     }
 }
 
-/// Every length of divisor, small ones too, with every length of quotient and every rest.
+/// Divisors of every length, small ones too, and quotients of every length, with a rest as long as the divisor and without.
 #[test]
 fn quotients() {
     let mut random = Random(4);
+    let mut with_rest = [0; 160];
     for round in 0..ROUNDS {
-        let mut d = random.wide(1 + round as u32 % 160);
+        let bits = round % 160;
+        let mut d = random.wide(1 + bits as u32);
         if digits(d).is_empty() {
             d.low = 1;
         }
         let q = random.next() as u32 >> random.below(32);
         let whole = unsafe { wide_times(d, q as u64) };
         check_quotient(whole, d);
-        let rest = random.wide(160);
-        if unsafe { wide_at_most(rest, whole) && wide_at_most(rest, d) } {
+        let rest = random.wide(1 + bits as u32);
+        if !digits(rest).is_empty() && unsafe { wide_at_most(rest, whole) && wide_at_most(rest, d) } {
             check_quotient(unsafe { wide_difference(whole, rest) }, d);
+            with_rest[bits] += 1;
         }
     }
+    // at least an eighth of the rounds at each length
+    assert!(with_rest.iter().all(|n| n * 8 * 160 >= ROUNDS), "too few with a rest: {with_rest:?}");
 }
 
 /// The ends of the quotient's span.
@@ -147,7 +152,7 @@ fn quotients_at_the_ends() {
         check_quotient(unsafe { wide_difference(most, one) }, d);
         check_quotient(unsafe { wide_sum(wide_difference(most, d), one) }, d);
     }
-    // a divisor of all three words, where the quotient is 1 at the most
+    // divisors of all three words: just as large as the number, larger and smaller by 1
     let all = Wide { low: full, mid: full, high: full };
     check_quotient(all, all);
     check_quotient(Wide { low: full - 1, ..all }, all);
