@@ -1,0 +1,4 @@
+mod Border
+mod Rows
+pub mod Refusals
+pub mod Spans

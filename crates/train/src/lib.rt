@@ -1,0 +1,78 @@
+// The train, the line's gradient and document 002's coefficients, in the units that every model takes and returns.
+ghost use mathlib.Core.Path.{_≡_};
+ghost use Rattle.train.specs.Coefficients.{first};
+
+pub mod delay;
+pub mod refusal;
+pub mod slope;
+
+// A speed in km/h.
+pub struct Kmh(pub u32);
+
+// A place or a length in metres.
+pub struct Metre(pub u32);
+
+// A distance in millimetres.
+pub struct Millimetre(pub u32);
+
+pub enum BrakeType {
+    Passenger,
+    Freight,
+}
+
+// weight is the braked weight percentage BW, top the top speed of the service regime.
+pub struct Train {
+    pub brake: BrakeType,
+    pub electropneumatic: bool,
+    pub weight: u32,
+    pub length: Metre,
+    pub top: Kmh,
+}
+
+// A gradient in per mille, uphill or downhill; one of the two is 0.
+pub struct Gradient {
+    pub rise: u32,
+    pub fall: u32,
+}
+
+// A number of either sign: plus - minus.
+pub struct Signed {
+    pub plus: u32,
+    pub minus: u32,
+}
+
+// Document 002's coefficients by its names: h in tenths of a second, nc in thousandths per km/h, i1 in per mille uphill, i2 in per mille downhill, the others in hundredths.
+pub struct Coefficients {
+    pub dt: u32,
+    pub h: u32,
+    pub kr: u32,
+    pub cr: u32,
+    pub nc: Signed,
+    pub vc: Kmh,
+    pub ki1: u32,
+    pub ki2: u32,
+    pub ki3: u32,
+    pub i1: u32,
+    pub i2: u32,
+}
+
+const FIRST: Coefficients = Coefficients {
+    dt: 130,
+    h: 10,
+    kr: 57,
+    cr: 5,
+    nc: Signed { plus: 0, minus: 0 },
+    vc: Kmh(150),
+    ki1: 90,
+    ki2: 100,
+    ki3: 110,
+    i1: 0,
+    i2: 21,
+};
+
+// Document 002's first values.
+pub fn first_values() -> Coefficients
+    ensures { λ r. ⌜ r ≡ first ⌝ }
+{
+    FIRST
+}
