@@ -1,0 +1,24 @@
+use mathlib.Core.Path.{_∙_}
+use Prim.Native.Nat.{_<_}
+use borrow.Author.Needs.{needs}
+use native.Mathlib.Nat.{mul-pos}
+use lib.Dec.{lit<}
+use Rattle.wide.specs.Value.{valueOf}
+use Rattle.curve.proofs.Bounds.{quotient-fits}
+use Rattle.curve.proofs.distance.Statement.{statement}
+use Rattle.curve.proofs.distance.Tie as tie
+
+sum-of-requires : tie.Need-sum-of-requires
+sum-of-requires c κs = c .before .pre
+
+quotient-up-requires : tie.Need-quotient-up-requires
+quotient-up-requires c κs =
+    let s = c .before .before in
+    let m = s .pre .1 in
+    (rw (m .over) (mul-pos (lit< tt) (m .some)), rw (c .sum-of .ensures) (quotient-fits (s .args .curve) (s .args .c) (s .args .m) (s .pre .0) m))
+
+returns : tie.Need-returns
+returns c = c .quotient-up .ensures ∙ rw (c .before .sum-of .ensures)
+
+pub distance-spec : {M : Type 1} → statement M
+distance-spec = tie.close (tie.spec sum-of-requires quotient-up-requires returns)

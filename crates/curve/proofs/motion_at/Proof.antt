@@ -1,0 +1,119 @@
+use mathlib.Core.Path.{_≡_, refl, _∙_}
+use Prim.Native.Nat.{ℕ, _*_, _≤_}
+use borrow.Author.Needs.{needs}
+use native.Mathlib.Nat.{mul-comm, le-trans}
+use native.Mathlib.Omega.{arith}
+use Rattle.wide.specs.Value.{valueOf}
+use Rattle.curve.specs.Plan.{v9, sOf, betaOf, gainOf, lossOf, squareOf, aMost, betaMost, speedMost}
+use Rattle.curve.proofs.Bounds.{s-small, gain-small, beta-small, speed-small, part-fits, over-fits}
+use Rattle.curve.proofs.motion_at.Statement.{statement}
+use Rattle.curve.proofs.motion_at.Tie as tie
+
+-- the target's speed, the speed that is left, and the unit
+bounds : (c : tie.After-beta) → let s = c .before .before .before .before .before in let b = c .beta .result in
+    (v9 (s .args .v0 .0) ≤ b) × ((b ≤ betaMost) × (v9 (s .args .v0 .0) ≤ speedMost))
+bounds c =
+    let s = c .before .before .before .before .before in
+    let n = s .pre .1 in
+    let k = beta-small (s .args .c) (s .args .v .0) (s .args .v0 .0) (s .pre .0) n in
+    rw (c .beta .ensures) (k .0, (k .1, speed-small (s .args .v0 .0) (le-trans (n .ahead) (n .high))))
+
+unit-small : (c : tie.After-at) → c .at .result .unit ≤ 330
+unit-small c = let s = c .before .before .before in rw (c .at .ensures .0) (s-small (s .args .v .0) (s .pre .1 .high) .0)
+
+gain-most : (c : tie.After-at) → c .at .result .gain ≤ aMost
+gain-most c = let s = c .before .before .before in rw (c .at .ensures .1) (gain-small (s .args .c) (s .args .v .0) (s .args .v0 .0) (s .pre .0) (s .pre .1) .0)
+
+strong : (c : tie.After-at) → c .at .result .loss ≤ c .at .result .gain
+strong c = let p = c .before .before .before .pre .2 in rw (c .at .ensures .1, c .at .ensures .2) (omega arith)
+
+square-is : (c : tie.After-product) → let s = c .before .before .before .before .before .before in
+    valueOf (c .product .result) ≡ squareOf (c .before .beta .result) (v9 (s .args .v0 .0))
+unfolding squareOf v9
+square-is c = c .product .ensures
+
+cast-fast : tie.Need-cast-fast
+cast-fast c = search needs
+
+cast-slow : tie.Need-cast-slow
+cast-slow c = search needs
+
+mul-target : tie.Need-mul-target
+mul-target c = let n = c .before .before .pre .1 in omega (arith, n .high, n .ahead)
+
+at-requires : tie.Need-at-requires
+at-requires c κs = let p = c .before .before .pre in (p .0, p .1)
+
+sub-a : tie.Need-sub-a
+sub-a c = omega (arith, strong (c .before))
+
+beta-requires : tie.Need-beta-requires
+beta-requires c κs = let p = c .before .before .before .before .pre in (p .0, p .1)
+
+sub-product : tie.Need-sub-product
+unfolding v9
+sub-product c = omega (arith, bounds c .0)
+
+add-product : tie.Need-add-product
+unfolding v9
+add-product c = omega (arith, bounds c)
+
+product-requires : tie.Need-product-requires
+product-requires c κs = search needs
+
+mul-times : tie.Need-mul-times
+mul-times c = omega (arith, unit-small (c .before .before .before .before))
+
+times-requires : tie.Need-times-requires
+times-requires c κs =
+    let k = bounds (c .before .before) in
+    rw (square-is (c .before)) (part-fits _ _ _ (k .1 .0) (k .1 .1) (unit-small (c .before .before .before .before)))
+
+product-requires-2 : tie.Need-product-requires-2
+product-requires-2 c κs = search needs
+
+times-requires-2 : tie.Need-times-requires-2
+times-requires-2 c κs = rw (c .product2 .ensures) (over-fits _ (omega (arith, gain-most (c .before .before .before .before .before .before))))
+
+mul-t14 : tie.Need-mul-t14
+mul-t14 c = omega (arith, c .before .before .before .before .before .before .before .before .before .before .pre .1 .high)
+
+speed-is : (v : ℕ) → v * 2500000000000000 ≡ v9 v
+unfolding v9
+speed-is v = refl
+
+returns : tie.Need-returns
+returns c =
+    let t = c .before .before in
+    let b = t .before .before .before in
+    let a = b .before .before in
+    let v = a .before .before .before .args .v .0 in
+    let e = a .at .ensures in
+    let p = strong a in
+    record {
+      a = omega (arith, e .1, e .2);
+      beta = b .beta .ensures;
+      speed = speed-is v;
+      part = t .times .ensures ∙ rw (square-is (t .before .before), e .0, b .beta .ensures) (mul-comm _ _);
+      over = c .times2 .ensures ∙ rw (c .before .product2 .ensures) (omega arith);
+    }
+
+pub motion-at-spec : {M : Type 1} → statement M
+motion-at-spec =
+    tie.close
+    (tie.spec
+    cast-fast
+    cast-slow
+    mul-target
+    at-requires
+    sub-a
+    beta-requires
+    sub-product
+    add-product
+    product-requires
+    mul-times
+    times-requires
+    product-requires-2
+    times-requires-2
+    mul-t14
+    returns)

@@ -1,0 +1,15 @@
+use native.Mathlib.Omega.{arith}
+use Rattle.curve.specs.Plan.{sOf}
+use Rattle.curve.proofs.strength.positive.Statement.{statement}
+use Rattle.curve.proofs.strength.positive.Tie as tie
+
+returns : tie.Need-returns
+unfolding sOf
+returns c = omega arith
+
+returns-2 : tie.Need-returns-2
+unfolding sOf
+returns-2 c = omega arith
+
+pub positive-spec : {M : Type 1} → statement M
+positive-spec = tie.close (tie.spec returns returns-2)
