@@ -112,8 +112,8 @@ module _ (k : Curve) (c : Course) (m : Motion) (sm : Small c) (h : Moving m) whe
   sum-fits = lt-of-le-of-lt sum-small (lt-of-le-of-lt (mul-le-mul {n₂ = aMost} {m₂ = 19 * 10 ^ 29} (h .a) (lit≤ tt)) (lit< tt))
 
   -- and has a quotient of 32 bits
-  pub quotient-fits : sumOf k c m ≤ 4294967295 * valueOf (m .over)
-  quotient-fits = rw (h .over) (le-trans sum-small (cert (m .a ∷ []) done (x0 ⊗ num (19 * 10 ^ 29)) (num 4294967295 ⊗ (num (81 * 10 ^ 20) ⊗ x0)) refl))
+  pub quotient-fits : sumOf k c m ≤ 4294967295 * valueOf (m .scale)
+  quotient-fits = rw (h .scale) (le-trans sum-small (cert (m .a ∷ []) done (x0 ⊗ num (19 * 10 ^ 29)) (num 4294967295 ⊗ (num (81 * 10 ^ 20) ⊗ x0)) refl))
 
 pub moving : (c : Course) (v v0 : ℕ) (m : Motion) → Small c → Near v v0 → Enough c v v0 → IsMotion c v v0 m → Moving m
 moving c v v0 m sm n h i =
@@ -127,7 +127,7 @@ moving c v v0 m sm n h i =
       a = omega arith;
       beta = rw (i .beta) (b .1);
       speed = rw (i .speed) (speed-small v (n .high));
-      over = i .over;
+      scale = i .scale;
       part =
           rw (i .part)
           (cert (sOf v ∷ squareOf (betaOf c v v0) (v9 v0) ∷ m .a ∷ [])

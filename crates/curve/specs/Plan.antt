@@ -3,6 +3,7 @@ use mathlib.Core.Path.{_≡_}
 use mathlib.Core.Bool.{Bool}
 use Prim.Native.Nat.{ℕ, _+_, _*_, _-_, _^_, _≤_, _<_, max}
 use lib.Dec.{leb}
+use Rattle.exact.specs.Fraction.{_over_, raised}
 use Rattle.wide.specs.Value.{valueOf}
 use Rattle.curve.specs.declared.Curve.{Curve}
 use Rattle.curve.specs.declared.Curve.the-variants.{Ebi, Sbi, W, P}
@@ -58,7 +59,18 @@ warningOf P = 2
 unfoldable pub wayOf : Curve → Course → ℕ → ℕ → ℕ
 wayOf k c b v = (c .t8 + serviceOf k * c .r8) * b + warningOf k * 150000000 * v
 
--- a distance is this over 81·10²⁰ a, in mm
+-- a curve's distance at the speeds v and v0 is sumAt over 81·10²⁰ aOf, in mm
+unfoldable pub aOf : Course → ℕ → ℕ → ℕ
+aOf c v v0 = gainOf c v v0 - lossOf c v v0
+
+module _ (k : Curve) (c : Course) (v v0 : ℕ) where
+  unfoldable pub sumAt : ℕ
+  sumAt = 9 * aOf c v v0 * wayOf k c (betaOf c v v0) (v9 v) + 50000 * sOf v * squareOf (betaOf c v v0) (v9 v0)
+
+  unfoldable pub placeOf : ℕ
+  placeOf = raised (sumAt over (81 * 10 ^ 20 * aOf c v v0))
+
+-- the sum as a motion has it
 unfoldable pub sumOf : Curve → Course → Motion → ℕ
 sumOf k c m = 9 * m .a * wayOf k c (m .beta) (m .speed) + valueOf (m .part)
 
@@ -67,7 +79,7 @@ pub record IsMotion (c : Course) (v v0 : ℕ) (m : Motion) : Type 0 where
   pub beta : m .beta ≡ betaOf c v v0
   pub speed : m .speed ≡ v9 v
   pub part : valueOf (m .part) ≡ 50000 * sOf v * squareOf (betaOf c v v0) (v9 v0)
-  pub over : valueOf (m .over) ≡ 81 * 10 ^ 20 * m .a
+  pub scale : valueOf (m .scale) ≡ 81 * 10 ^ 20 * m .a
 
 -- what is accepted makes numbers no larger than these
 pub record Small (c : Course) : Type 0 where
@@ -98,5 +110,5 @@ pub record Moving (m : Motion) : Type 0 where
   pub a : m .a ≤ aMost
   pub beta : m .beta ≤ betaMost
   pub speed : m .speed ≤ speedMost
-  pub over : valueOf (m .over) ≡ 81 * 10 ^ 20 * m .a
+  pub scale : valueOf (m .scale) ≡ 81 * 10 ^ 20 * m .a
   pub part : valueOf (m .part) * 10 ^ 6 ≤ m .a * (betaMost * (betaMost + speedMost))

@@ -39,13 +39,13 @@ pub struct Course {
     pub vc: u64,
 }
 
-// The deceleration in 10⁻¹² m/s² by the greater of V and 1 km/h; Vβ and V in m/s / (9·10¹⁵); the braking part of a sum; what the sum stands over to be millimetres.
+// The deceleration in 10⁻¹² m/s² by the greater of V and 1 km/h; Vβ and V in m/s / (9·10¹⁵); the braking part of a sum; what it is over to be millimetres.
 pub struct Motion {
     pub a: u64,
     pub beta: u64,
     pub speed: u64,
     pub part: Wide,
-    pub over: Wide,
+    pub scale: Wide,
 }
 
 // How often a curve counts tR + tf at Vβ, and 1.5 s at V.
@@ -103,13 +103,13 @@ pub fn motion_at(c: Course, v: Kmh, v0: Kmh) -> Motion
     let b = strength::beta(c, fast, slow);
     let square = wide::product(b - target, b + target);
     let part = wide::times(square, 50000 * s.unit);
-    let over = wide::times(wide::product(a, 810000000000), 10000000000);
+    let scale = wide::times(wide::product(a, 810000000000), 10000000000);
     Motion {
         a: a,
         beta: b,
         speed: fast * 2500000000000000,
         part: part,
-        over: over,
+        scale: scale,
     }
 }
 
@@ -136,7 +136,7 @@ fn ahead_of(curve: Curve) -> Ahead
     }
 }
 
-// The distance as a number over m.over.
+// The distance as a number over m.scale.
 fn sum_of(curve: Curve, c: Course, m: Motion) -> Wide
     requires { ⌜ Small c × Moving m ⌝ }
     ensures { λ r. ⌜ valueOf r ≡ sumOf curve c m ⌝ }
@@ -152,17 +152,17 @@ fn sum_of(curve: Curve, c: Course, m: Motion) -> Wide
 // One curve's distance.
 pub fn distance(curve: Curve, c: Course, m: Motion) -> Millimetre
     requires { ⌜ Small c × Moving m ⌝ }
-    ensures { λ r. ⌜ r .0 ≡ raised (sumOf curve c m over valueOf (m .over)) ⌝ }
+    ensures { λ r. ⌜ r .0 ≡ raised (sumOf curve c m over valueOf (m .scale)) ⌝ }
 {
-    let over = m.over;
-    Millimetre(wide::quotient::quotient_up(sum_of(curve, c, m), over))
+    let scale = m.scale;
+    Millimetre(wide::quotient::quotient_up(sum_of(curve, c, m), scale))
 }
 
 // Whether it is at most d, without a division.
 pub fn fits(curve: Curve, c: Course, m: Motion, d: Metre) -> bool
     requires { ⌜ Small c × Moving m ⌝ }
-    ensures { λ r. ⌜ r ≡ leb (sumOf curve c m) (valueOf (m .over) * (1000 * d .0)) ⌝ }
+    ensures { λ r. ⌜ r ≡ leb (sumOf curve c m) (valueOf (m .scale) * (1000 * d .0)) ⌝ }
 {
-    let over = m.over;
-    wide::at_most(sum_of(curve, c, m), wide::times(over, 1000 * d.0 as u64))
+    let scale = m.scale;
+    wide::at_most(sum_of(curve, c, m), wide::times(scale, 1000 * d.0 as u64))
 }

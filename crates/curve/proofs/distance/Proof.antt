@@ -15,7 +15,7 @@ quotient-up-requires : tie.Need-quotient-up-requires
 quotient-up-requires c κs =
     let s = c .before .before in
     let m = s .pre .1 in
-    (rw (m .over) (mul-pos (lit< tt) (m .some)), rw (c .sum-of .ensures) (quotient-fits (s .args .curve) (s .args .c) (s .args .m) (s .pre .0) m))
+    (rw (m .scale) (mul-pos (lit< tt) (m .some)), rw (c .sum-of .ensures) (quotient-fits (s .args .curve) (s .args .c) (s .args .m) (s .pre .0) m))
 
 returns : tie.Need-returns
 returns c = c .quotient-up .ensures ∙ rw (c .before .sum-of .ensures)

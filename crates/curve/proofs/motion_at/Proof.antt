@@ -95,7 +95,7 @@ returns c =
       beta = b .beta .ensures;
       speed = speed-is v;
       part = t .times .ensures ∙ rw (square-is (t .before .before), e .0, b .beta .ensures) (mul-comm _ _);
-      over = c .times2 .ensures ∙ rw (c .before .product2 .ensures) (omega arith);
+      scale = c .times2 .ensures ∙ rw (c .before .product2 .ensures) (omega arith);
     }
 
 pub motion-at-spec : {M : Type 1} → statement M
