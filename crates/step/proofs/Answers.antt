@@ -1,0 +1,121 @@
+-- What the code finds out, refusal by refusal, makes the answers of the definitions.
+use mathlib.Core.Path.{_≡_, refl, sym, ap, _∙_}
+use mathlib.Core.Bool.{true, false, not}
+use mathlib.Core.List.{List, [], _∷_, _++_}
+use Prim.Native.Nat.{ℕ, _+_, _≤_, _<_}
+use native.Mathlib.Omega.{arith}
+use native.Mathlib.Nat.{le-refl, le-trans, le-add-right}
+use borrow.Author.Tests.{le-leb, leb-true, ltb-false, lt-ltb, le-ltb, ne-eqb}
+use lib.Dec.{ltb, lit≤, lit<}
+use lib.ListN.{length, drop}
+use Rattle.exact.specs.Fraction.{whole, _*q_, Least}
+use Rattle.train.specs.declared.Kmh.{Kmh}
+use Rattle.train.specs.declared.Train.{Train}
+use Rattle.train.specs.declared.Gradient.{Gradient}
+use Rattle.train.specs.Units.{kmh}
+use Rattle.train.specs.Coefficients.{first}
+use Rattle.train.specs.Gradient.{Moderate}
+use Rattle.train.specs.Refusal.{Refusal, _gives_, firstOf}
+use Rattle.train.proofs.Refusals.{Numbered, first-after, first-before, none-holds}
+use Rattle.curve.specs.declared.Curve.{Curve}
+use Rattle.curve.specs.declared.Curve.the-variants.{Ebi, Sbi, W, P}
+use Rattle.curve.specs.declared.Course.{Course}
+use Rattle.curve.specs.Step.{formula, distance, strong}
+use Rattle.curve.specs.Plan.{Near, Enough, placeOf}
+use Rattle.curve.specs.Agreement.{IsCourse}
+use Rattle.curve.proofs.Exact.{strong-is, distance-is, distance-least}
+use Rattle.curve.proofs.Rising.{strong-stays}
+use Rattle.step.specs.declared.Distances.{Distances}
+use Rattle.step.specs.declared.Written.{Written}
+use Rattle.step.specs.Answer.{inputs, refused, weak, stepRefusals, distances, stepOf, Exact, upTo, speeds, rowRefusals, rowAnswer, rowAfter, RowExact}
+use Rattle.step.proofs.Places.{same-places, place-at}
+
+-- what the inputs do not turn away
+pub record Accepted (t : Train) (g : Gradient) (v v0 : Kmh) : Type 0 where
+  pub weight : t .weight ≤ 160
+  pub length : t .length .0 ≤ 1000
+  pub gradient : Moderate g
+  pub speeds : Near (v .0) (v0 .0)
+
+module _ (t : Train) (g : Gradient) (v v0 : Kmh) where
+  pub inputs-numbered : Numbered (inputs t g v v0)
+  inputs-numbered = (tt, (tt, (tt, (tt, (tt, (tt, (tt, (tt, (tt, (tt, (tt, tt)))))))))))
+
+  pub inputs-fit : firstOf (inputs t g v v0) ≡ 0 → Accepted t g v v0
+  inputs-fit h =
+      let n = none-holds (inputs t g v v0) inputs-numbered h in
+      let m = n .1 .1 .1 .1 .1 .1 in
+      record {
+        weight = ltb-false _ _ (n .1 .0);
+        length = ltb-false _ _ (n .1 .1 .1 .0);
+        gradient = record { rise = ltb-false _ _ (m .1 .1 .1 .0); fall = ltb-false _ _ (m .1 .1 .1 .1 .0) };
+        speeds = record { high = ltb-false _ _ (m .0); ahead = ltb-false _ _ (m .1 .1 .0) };
+      }
+
+-- a single distance's answer, and that it is exact where it is given
+module _ (t : Train) (g : Gradient) (v v0 : Kmh) where
+  abbrev pub Step : Distances → Type 0
+  Step d = (d ≡ stepOf first t g v v0) × (d .refusal ≡ 0 → Exact first t g v v0 d)
+
+  pub step-refused : (n : ℕ) → 0 < n → firstOf (stepRefusals first t g v v0) ≡ n → Step (refused n)
+  unfolding stepOf
+  step-refused n l e = (rw (e, ne-eqb n 0 (λ i. omega arith)), λ z. absurd (let k : n ≡ 0 = z in omega arith))
+
+  pub step-given : (c : Course) → firstOf (stepRefusals first t g v v0) ≡ 0 → v0 .0 ≤ v .0 → IsCourse first t g c → Enough c (v .0) (v0 .0) → Step (distances first t g v v0)
+  unfolding stepOf
+  step-given c z ahead is enough =
+      let least = distance-least first t g c is v v0 ahead enough in
+      (rw z, λ i. record { ebi = least Ebi; sbi = least Sbi; w = least W; p = least P })
+
+-- a row's answer, the list afterwards, and that each place is exact
+module _ (t : Train) (g : Gradient) (x : Curve) (v0 : Kmh) (lent : List ℕ) where
+  abbrev pub Row : Written → List ℕ → Type 0
+  Row w after = (w ≡ rowAnswer first t g v0 (length lent)) × (after ≡ rowAfter first t g x v0 lent) × RowExact first t g x v0 (w .length) after
+
+  abbrev short : List Refusal
+  short = ltb (length lent) (speeds t v0) gives 11 ∷ []
+
+  abbrev before : List Refusal
+  before = inputs t g (t .top) v0 ++ weak first t g v0 v0
+
+  before-numbered : Numbered before
+  before-numbered = (tt, (tt, (tt, (tt, (tt, (tt, (tt, (tt, (tt, (tt, (tt, (tt, tt))))))))))))
+
+  refused-row : (n : ℕ) → 0 < n → firstOf (rowRefusals first t g v0 (length lent)) ≡ n → Row (record { refusal = n; length = 0 }) lent
+  unfolding rowAnswer rowAfter
+  refused-row n l e = let z = ne-eqb n 0 (λ i. omega arith) in (rw (e, z), rw (e, z), record { least = λ i h. absurd (let k : i < 0 = h in omega arith) })
+
+  pub row-refused : (n : ℕ) → 0 < n → firstOf before ≡ n → Row (record { refusal = n; length = 0 }) lent
+  row-refused n l e = refused-row n l (first-before before short (λ i. omega arith) ∙ e)
+
+  module _ (z : firstOf before ≡ 0) where
+    pub row-short : length lent < speeds t v0 → Row (record { refusal = 11; length = 0 }) lent
+    row-short l = refused-row 11 (lit< tt) (first-after before short before-numbered z ∙ rw (lt-ltb (length lent) (speeds t v0) l))
+
+    module _ (c : Course) (is : IsCourse first t g c) (enough : Enough c (v0 .0) (v0 .0)) where
+      -- strong at V0, so at every speed above
+      pub enough-on : (i : ℕ) → Enough c (v0 .0 + i) (v0 .0)
+      enough-on i =
+          let w = kmh (v0 .0 + i) in
+          let on : v0 .0 ≤ v0 .0 + i = le-add-right (v0 .0) i in
+          let s = strong-stays first t g refl refl (lit≤ tt) v0 w v0 (le-refl _) on (sym (strong-is first t g c is v0 v0 (le-refl _)) ∙ le-leb _ _ enough) in
+          leb-true _ _ (strong-is first t g c is w v0 on ∙ s)
+
+      abbrev exactly : ℕ → ℕ
+      exactly i = distance first t g (kmh (v0 .0 + i)) v0 x .0
+
+      abbrev n : ℕ
+      n = speeds t v0
+
+      row-is : (i : ℕ) → placeOf x c (v0 .0 + i) (v0 .0) ≡ exactly i
+      row-is i = distance-is first t g c is (kmh (v0 .0 + i)) v0 (le-add-right (v0 .0) i) (enough-on i) x
+
+      pub row-given : (after : List ℕ) → n ≤ length lent → after ≡ upTo (λ i. placeOf x c (v0 .0 + i) (v0 .0)) n ++ drop n lent → Row (record { refusal = 0; length = n }) after
+      unfolding rowAnswer rowAfter
+      row-given after l e =
+          let r : firstOf (rowRefusals first t g v0 (length lent)) ≡ 0 = first-after before short before-numbered z ∙ rw (le-ltb (length lent) n l) in
+          let p : after ≡ upTo exactly n ++ drop n lent = e ∙ ap (λ q. q ++ drop n lent) (same-places _ exactly n (λ i h. row-is i)) in (
+            rw r,
+            rw r p,
+            record { least = λ i h. rw (p, place-at exactly n i (drop n lent) h) (distance-least first t g c is (kmh (v0 .0 + i)) v0 (le-add-right (v0 .0) i) (enough-on i) x) },
+          )

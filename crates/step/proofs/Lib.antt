@@ -1,0 +1,3 @@
+mod Places
+pub mod Answers
+pub mod Figures

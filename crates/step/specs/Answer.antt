@@ -1,0 +1,87 @@
+-- Document 01, "Step distances" and "What is turned away": what a single distance and a row answer.
+use mathlib.Core.Bool.{not, cond}
+use mathlib.Core.List.{List, [], _∷_, _++_}
+use Prim.Native.Nat.{ℕ, zero, suc, _+_, _-_, _<_}
+use lib.Dec.{ltb, eqb}
+use lib.ListN.{length, drop, getD}
+use Rattle.exact.specs.Fraction.{whole, _*q_, Least}
+use Rattle.train.specs.declared.Kmh.{Kmh}
+use Rattle.train.specs.declared.Train.{Train}
+use Rattle.train.specs.declared.Gradient.{Gradient}
+use Rattle.train.specs.declared.Coefficients.{Coefficients}
+use Rattle.train.specs.Units.{kmh}
+use Rattle.train.specs.Refusal.{Refusal, _gives_, firstOf, trainRefusals, gradientRefusals}
+use Rattle.curve.specs.declared.Curve.{Curve}
+use Rattle.curve.specs.declared.Curve.the-variants.{Ebi, Sbi, W, P}
+use Rattle.curve.specs.Step.{formula, distance, strong}
+use Rattle.step.specs.declared.Distances.{Distances}
+use Rattle.step.specs.declared.Written.{Written}
+
+-- V and V0 of 0 to 330, V0 at most V
+abbrev pub speedRefusals : Kmh → Kmh → List Refusal
+speedRefusals v v0 = ltb 330 (v .0) gives 3 ∷ ltb 330 (v0 .0) gives 3 ∷ ltb (v .0) (v0 .0) gives 4 ∷ []
+
+-- what the inputs alone turn away
+abbrev pub inputs : Train → Gradient → Kmh → Kmh → List Refusal
+inputs t g v v0 = trainRefusals t ++ (speedRefusals v v0 ++ gradientRefusals g)
+
+-- a refusal, with zeros
+abbrev pub refused : ℕ → Distances
+refused n = record { refusal = n; ebi = record { 0 = 0 }; sbi = record { 0 = 0 }; w = record { 0 = 0 }; p = record { 0 = 0 } }
+
+-- f 0, f 1, .., n of them
+unfoldable pub upTo : (ℕ → ℕ) → ℕ → List ℕ
+upTo f zero = []
+upTo f (suc n) = upTo f n ++ (f n ∷ [])
+
+-- how many speeds from V0 to the top speed
+abbrev pub speeds : Train → Kmh → ℕ
+speeds t v0 = t .top .0 + 1 - v0 .0
+
+module _ (k : Coefficients) (t : Train) (g : Gradient) where
+  abbrev pub weak : Kmh → Kmh → List Refusal
+  weak v v0 = not (strong k t g v v0) gives 10 ∷ []
+
+  -- a single distance
+  abbrev pub stepRefusals : Kmh → Kmh → List Refusal
+  stepRefusals v v0 = inputs t g v v0 ++ weak v v0
+
+  abbrev pub distances : Kmh → Kmh → Distances
+  distances v v0 =
+      record {
+        refusal = 0;
+        ebi = distance k t g v v0 Ebi;
+        sbi = distance k t g v v0 Sbi;
+        w = distance k t g v v0 W;
+        p = distance k t g v v0 P;
+      }
+
+  unfoldable pub stepOf : Kmh → Kmh → Distances
+  stepOf v v0 = cond (eqb (firstOf (stepRefusals v v0)) 0) (distances v v0) (refused (firstOf (stepRefusals v v0)))
+
+  -- the second demand: each is the least whole number of millimetres not below the exact value
+  pub record Exact (v v0 : Kmh) (d : Distances) : Type 0 where
+    pub ebi : Least (whole 1000 *q formula k t g v v0 Ebi) (d .ebi .0)
+    pub sbi : Least (whole 1000 *q formula k t g v v0 Sbi) (d .sbi .0)
+    pub w : Least (whole 1000 *q formula k t g v v0 W) (d .w .0)
+    pub p : Least (whole 1000 *q formula k t g v v0 P) (d .p .0)
+
+  -- a row in `room` places; refusal 10 is decided at V0
+  abbrev pub rowRefusals : Kmh → ℕ → List Refusal
+  rowRefusals v0 room = (inputs t g (t .top) v0 ++ weak v0 v0) ++ (ltb room (speeds t v0) gives 11 ∷ [])
+
+  -- one curve's distances, V0 first
+  abbrev pub rowOf : Curve → Kmh → List ℕ
+  rowOf c v0 = upTo (λ i. distance k t g (kmh (v0 .0 + i)) v0 c .0) (speeds t v0)
+
+  unfoldable pub rowAnswer : Kmh → ℕ → Written
+  rowAnswer v0 room =
+      cond (eqb (firstOf (rowRefusals v0 room)) 0) (record { refusal = 0; length = speeds t v0 }) (record { refusal = firstOf (rowRefusals v0 room); length = 0 })
+
+  -- the lent list afterwards: the row and the rest as it was, or unchanged
+  unfoldable pub rowAfter : Curve → Kmh → List ℕ → List ℕ
+  rowAfter c v0 lent = cond (eqb (firstOf (rowRefusals v0 (length lent))) 0) (rowOf c v0 ++ drop (speeds t v0) lent) lent
+
+  -- the second demand, of each of the n places written
+  pub record RowExact (c : Curve) (v0 : Kmh) (n : ℕ) (after : List ℕ) : Type 0 where
+    pub least : (i : ℕ) → i < n → Least (whole 1000 *q formula k t g (kmh (v0 .0 + i)) v0 c) (getD after i 0)

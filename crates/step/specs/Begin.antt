@@ -1,0 +1,30 @@
+-- What the code knows before it works out a distance.
+use mathlib.Core.Path.{_≡_}
+use mathlib.Core.List.{_++_}
+use Prim.Native.Nat.{ℕ, _<_}
+use Rattle.train.specs.declared.Kmh.{Kmh}
+use Rattle.train.specs.declared.Train.{Train}
+use Rattle.train.specs.declared.Gradient.{Gradient}
+use Rattle.train.specs.Coefficients.{first}
+use Rattle.train.specs.Refusal.{firstOf}
+use Rattle.curve.specs.declared.Course.{Course}
+use Rattle.curve.specs.Plan.{Near, Enough}
+use Rattle.curve.specs.Agreement.{IsCourse}
+use Rattle.step.specs.declared.Begun.{Begun}
+use Rattle.step.specs.declared.Begun.the-variants.{Refused, Ready}
+use Rattle.step.specs.Answer.{inputs, weak}
+
+-- the refusals up to 10, the strength taken at `at`
+module _ (t : Train) (g : Gradient) (v v0 at : Kmh) where
+  abbrev pub refusal : ℕ
+  refusal = firstOf (inputs t g v v0 ++ weak first t g at v0)
+
+  pub record IsReady (c : Course) : Type 0 where
+    pub accepted : refusal ≡ 0
+    pub speeds : Near (v .0) (v0 .0)
+    pub course : IsCourse first t g c
+    pub enough : Enough c (at .0) (v0 .0)
+
+  abbrev pub Starts : Begun → Type 0
+  Starts (Refused n) = (0 < n) × (refusal ≡ n)
+  Starts (Ready c) = IsReady c

@@ -1,0 +1,169 @@
+// The step model: single distances and rows, with document 002's first values. Document 01, "Step distances".
+ghost use mathlib.Core.Path.{_≡_};
+ghost use Prim.Native.Nat.{ℕ, _+_, _≤_, _<_};
+ghost use mathlib.Core.List.{_++_};
+ghost use lib.ListN.{length, drop};
+ghost use Rattle.train.specs.Coefficients.{first};
+ghost use Rattle.train.specs.Gradient.{gradientOf};
+ghost use Rattle.train.specs.Refusal.{firstOf};
+ghost use Rattle.curve.specs.Plan.{Small, Enough, placeOf};
+ghost use Rattle.step.specs.Answer.{inputs, refused, stepOf, Exact, upTo, rowAnswer, rowAfter, RowExact};
+ghost use Rattle.step.specs.Begin.{Starts};
+use curve::Course;
+use curve::Curve;
+use train::Gradient;
+use train::Kmh;
+use train::Millimetre;
+use train::Train;
+
+// The four distances, or a refusal and zeros.
+pub struct Distances {
+    pub refusal: u32,
+    pub ebi: Millimetre,
+    pub sbi: Millimetre,
+    pub w: Millimetre,
+    pub p: Millimetre,
+}
+
+// How many places were written, or a refusal and 0.
+pub struct Written {
+    pub refusal: u32,
+    pub length: u32,
+}
+
+// A refusal, or what the speeds do not change.
+enum Begun {
+    Refused(u32),
+    Ready(Course),
+}
+
+// What the inputs alone turn away, or 0.
+fn turned_away(train: Train, v: Kmh, v0: Kmh, g: Gradient) -> u32
+    ensures { λ r. ⌜ r ≡ firstOf (inputs train g v v0) ⌝ }
+{
+    let bad = train::refusal::of_train(train);
+    if bad > 0 {
+        return bad;
+    }
+    if v.0 > 330 {
+        return 3;
+    }
+    if v0.0 > 330 {
+        return 3;
+    }
+    if v0.0 > v.0 {
+        return 4;
+    }
+    train::refusal::of_gradient(g)
+}
+
+// What stands before every distance. The train is to be strong enough at the speed `at`, which lies between v0 and v.
+fn start(train: Train, v: Kmh, v0: Kmh, at: Kmh, g: Gradient) -> Begun
+    requires { ⌜ (v0 .0 ≤ v .0 → (v0 .0 ≤ at .0) × (at .0 ≤ v .0)) ⌝ }
+    ensures { λ r. ⌜ Starts train g v v0 at r ⌝ }
+{
+    let bad = turned_away(train, v, v0, g);
+    if bad > 0 {
+        return Begun::Refused(bad);
+    }
+    let c = curve::course_of(train::first_values(), train, g);
+    if !curve::is_strong(c, at, v0) {
+        return Begun::Refused(10);
+    }
+    Begun::Ready(c)
+}
+
+// A refusal, with zeros.
+fn refused_with(n: u32) -> Distances
+    ensures { λ r. ⌜ r ≡ refused n ⌝ }
+{
+    Distances {
+        refusal: n,
+        ebi: Millimetre(0),
+        sbi: Millimetre(0),
+        w: Millimetre(0),
+        p: Millimetre(0),
+    }
+}
+
+// The four distances, on a gradient as rise and fall.
+pub fn step_on(train: Train, v: Kmh, v0: Kmh, g: Gradient) -> Distances
+    ensures { λ r. ⌜ (r ≡ stepOf first train g v v0) × (r .refusal ≡ 0 → Exact first train g v v0 r) ⌝ }
+{
+    let begun = start(train, v, v0, v, g);
+    match begun {
+        Begun::Refused(n) => refused_with(n),
+        Begun::Ready(c) => {
+            let m = curve::motion_at(c, v, v0);
+            Distances {
+                refusal: 0,
+                ebi: curve::distance(Curve::Ebi, c, m),
+                sbi: curve::distance(Curve::Sbi, c, m),
+                w: curve::distance(Curve::W, c, m),
+                p: curve::distance(Curve::P, c, m),
+            }
+        }
+    }
+}
+
+// The four distances from v to the target v0.
+pub fn step(train: Train, v: Kmh, v0: Kmh, gradient: i32) -> Distances
+    ensures { λ r. ⌜ (r ≡ stepOf first train (gradientOf gradient) v v0) × (r .refusal ≡ 0 → Exact first train (gradientOf gradient) v v0 r) ⌝ }
+{
+    step_on(train, v, v0, train::slope::gradient_of(gradient))
+}
+
+// One curve's distances for n speeds from v0 on.
+fn fill(curve: Curve, c: Course, v0: Kmh, n: usize, out: &mut [u32])
+    requires { ⌜ Small c × ((i : ℕ) → i < n → Enough c (v0 .0 + i) (v0 .0)) × (v0 .0 + n ≤ 331) × (n ≤ length (now out)) ⌝ }
+    ensures { λ r. ⌜ now (out .exit) ≡ upTo (λ i. placeOf curve c (v0 .0 + i) (v0 .0)) n ++ drop n (now (out .entry)) ⌝ }
+{
+    let mut v = v0.0;
+    let mut k: usize = 0;
+    while k < n {
+        let d = curve::distance(curve, c, curve::motion_at(c, Kmh(v), v0));
+        out[k] = d.0;
+        v += 1;
+        k += 1;
+    }
+}
+
+// A row, on a gradient as rise and fall.
+pub fn row_on(curve: Curve, train: Train, v0: Kmh, g: Gradient, out: &mut [u32]) -> Written
+    ensures { λ r. ⌜ (r ≡ rowAnswer first train g v0 (length (now (out .entry))))
+        × (now (out .exit) ≡ rowAfter first train g curve v0 (now (out .entry)))
+        × RowExact first train g curve v0 (r .length) (now (out .exit)) ⌝ }
+{
+    let top = train.top;
+    let begun = start(train, top, v0, v0, g);
+    match begun {
+        Begun::Refused(n) => Written {
+            refusal: n,
+            length: 0,
+        },
+        Begun::Ready(c) => {
+            let n = top.0 + 1 - v0.0;
+            let places = n as usize;
+            if places > out.len() {
+                return Written {
+                    refusal: 11,
+                    length: 0,
+                };
+            }
+            fill(curve, c, v0, places, out);
+            Written {
+                refusal: 0,
+                length: n,
+            }
+        }
+    }
+}
+
+// A row of one curve: its distances from every speed of v0 to the top speed, v0 first.
+pub fn row(curve: Curve, train: Train, v0: Kmh, gradient: i32, out: &mut [u32]) -> Written
+    ensures { λ r. ⌜ (r ≡ rowAnswer first train (gradientOf gradient) v0 (length (now (out .entry))))
+        × (now (out .exit) ≡ rowAfter first train (gradientOf gradient) curve v0 (now (out .entry)))
+        × RowExact first train (gradientOf gradient) curve v0 (r .length) (now (out .exit)) ⌝ }
+{
+    row_on(curve, train, v0, train::slope::gradient_of(gradient), out)
+}
