@@ -1,0 +1,84 @@
+// The three speed ceilings of a permitted speed. Document 01, "Ceilings"; document 002, section 9.
+ghost use mathlib.Core.Path.{_≡_};
+ghost use Prim.Native.Nat.{_≤_};
+ghost use Rattle.ceilings.specs.Ceilings.{Narrow, grownTo, ceilingOf, limitsOf};
+ghost use Rattle.ceilings.specs.Paper.{AsPrinted};
+use train::Kmh;
+
+// A speed in 120ths of a km/h.
+pub struct Ceiling(pub u32);
+
+// The ceilings for W, SBI and EBI, or a refusal and zeros.
+pub struct Limits {
+    pub refusal: u32,
+    pub w: Ceiling,
+    pub sbi: Ceiling,
+    pub ebi: Ceiling,
+}
+
+// How far a ceiling lies above the permitted speed, in 120ths: `least` up to 110 km/h, then `growth` more for each km/h up to `end`.
+pub struct Band {
+    pub least: u32,
+    pub growth: u32,
+    pub end: Kmh,
+}
+
+const W: Band = Band {
+    least: 480,
+    growth: 4,
+    end: Kmh(140),
+};
+
+const SBI: Band = Band {
+    least: 600,
+    growth: 6,
+    end: Kmh(210),
+};
+
+const EBI: Band = Band {
+    least: 900,
+    growth: 9,
+    end: Kmh(210),
+};
+
+// For how many km/h above 110 the ceiling has grown.
+fn grown(v: Kmh, end: Kmh) -> u32
+    requires { ⌜ 110 ≤ end .0 ⌝ }
+    ensures { λ r. ⌜ r ≡ grownTo end v ⌝ }
+{
+    if v.0 <= 110 {
+        return 0;
+    }
+    if v.0 < end.0 {
+        return v.0 - 110;
+    }
+    end.0 - 110
+}
+
+fn ceiling_of(v: Kmh, b: Band) -> Ceiling
+    requires { ⌜ (v .0 ≤ 330) × Narrow b ⌝ }
+    ensures { λ r. ⌜ r ≡ ceilingOf b v ⌝ }
+{
+    let end = b.end;
+    let more = b.growth * grown(v, end);
+    Ceiling(120 * v.0 + b.least + more)
+}
+
+pub fn ceilings(permitted: Kmh) -> Limits
+    ensures { λ r. ⌜ (r ≡ limitsOf permitted) × (r .refusal ≡ 0 → AsPrinted permitted r) ⌝ }
+{
+    if permitted.0 > 330 {
+        return Limits {
+            refusal: 3,
+            w: Ceiling(0),
+            sbi: Ceiling(0),
+            ebi: Ceiling(0),
+        };
+    }
+    Limits {
+        refusal: 0,
+        w: ceiling_of(permitted, W),
+        sbi: ceiling_of(permitted, SBI),
+        ebi: ceiling_of(permitted, EBI),
+    }
+}
