@@ -8,9 +8,9 @@ use native.Mathlib.Nat.{mul-pos}
 use borrow.Author.Tests.{le-leb, lt-leb, lt-ltb, le-ltb, ltb-true, ltb-false}
 use lib.Ieee.Bits.{is-true, is-false}
 use lib.Dec.{lit<, lit≤, leb, ltb, leb→le, nleb→lt}
-use Rattle.exact.specs.Fraction.{Fraction, whole, signed, _over_, _+q_, _-q_, _*q_, _/q_, _≈q_}
+use Rattle.exact.specs.Fraction.{Fraction, whole, _over_, _+q_, _-q_, _*q_, _/q_, _≈q_}
 use Rattle.exact.proofs.Polynomial.{num, _⊕_, _⊗_}
-use Rattle.exact.proofs.Certificate.{x0, x1, x2, x3, x4, x5, done, times}
+use Rattle.exact.proofs.Certificate.{x0, x1, x2, x3, x4, done, times}
 use Rattle.exact.proofs.Shape.{shape, wholeE, overE, _+e_, _-e_, _*e_}
 use Rattle.exact.proofs.Substitution.{≈q-refl, ≈q-sym, ≈q-trans, becomes, cond-is, net, +q-cong, *q-cong, /q-over}
 use Rattle.train.specs.declared.Kmh.{Kmh}

@@ -1,12 +1,12 @@
 -- Every number of the plan fits its type, and with the first values the train brakes no weaker at a higher speed.
-use mathlib.Core.Path.{_≡_, refl}
+use mathlib.Core.Path.{refl}
 use mathlib.Core.List.{[], _∷_}
-use Prim.Native.Nat.{ℕ, _+_, _*_, _-_, _^_, _≤_, _<_, max}
+use Prim.Native.Nat.{ℕ, _+_, _*_, _-_, _^_, _≤_, _<_}
 use native.Mathlib.Omega.{arith}
-use native.Mathlib.Nat.{mul-le-mul, mul-le-mul-left, add-le-add, le-trans, lt-of-le-of-lt, le-of-mul-le-mul-right, le-refl}
+use native.Mathlib.Nat.{mul-le-mul, mul-le-mul-left, add-le-add, le-trans, lt-of-le-of-lt, le-of-mul-le-mul-right}
 use lib.Dec.{lit<, lit≤}
 use Rattle.exact.proofs.Polynomial.{num, _⊕_, _⊗_}
-use Rattle.exact.proofs.Certificate.{x0, x1, x2, x3, x4, x5, x6, x7, done, times, cert}
+use Rattle.exact.proofs.Certificate.{x0, x1, x2, done, times, cert}
 use Rattle.wide.specs.Value.{valueOf, limit}
 use Rattle.curve.specs.declared.Curve.{Curve}
 use Rattle.curve.specs.declared.Curve.the-variants.{Ebi, Sbi, W, P}

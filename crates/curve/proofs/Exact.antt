@@ -5,10 +5,10 @@ use mathlib.Core.List.{List, [], _∷_}
 use mathlib.Core.Logic.{_↔_}
 use Prim.Native.Nat.{ℕ, zero, suc, _+_, _*_, _-_, _^_, _≤_, _<_, max}
 use native.Mathlib.Omega.{arith}
-use native.Mathlib.Nat.{mul-le-mul, mul-zero, mul-comm, mul-pos, zero-lt-suc, max-eq-left, sub-eq-zero-of-le, le-trans, le-of-eq}
+use native.Mathlib.Nat.{mul-le-mul, mul-zero, mul-pos, zero-lt-suc, max-eq-left, sub-eq-zero-of-le, le-trans}
 use borrow.Author.Tests.{le-leb, leb-true}
 use lib.Dec.{T as So, leb, leb→le, nleb→lt, eqb, eqb→eq, lit<, lit≤}
-use Rattle.exact.specs.Fraction.{Fraction, whole, signed, _over_, _+q_, _-q_, _*q_, _/q_, _≤q_, _≈q_, leq, Least, raised}
+use Rattle.exact.specs.Fraction.{Fraction, whole, signed, _over_, _+q_, _-q_, _*q_, _≤q_, _≈q_, leq, Least, raised}
 use Rattle.exact.proofs.Polynomial.{Expr, num, _⊕_, _⊗_}
 use Rattle.exact.proofs.Certificate.{x0, x1, x2, x3, x4, x5, x6, done, times, ring}
 use Rattle.exact.proofs.Shape.{shape, wholeE, overE, _+e_, _-e_, _*e_}

@@ -2,12 +2,12 @@
 use mathlib.Core.Path.{_≡_, refl}
 use mathlib.Core.Bool.{true}
 use mathlib.Core.List.{[], _∷_}
-use Prim.Native.Nat.{ℕ, _+_, _*_, _-_, _^_, _≤_, _<_, max}
+use Prim.Native.Nat.{ℕ, _+_, _*_, _-_, _^_, _≤_, max}
 use native.Mathlib.Omega.{arith}
 use native.Mathlib.Nat.{le-trans, mul-le-mul, mul-pos, zero-mul}
 use borrow.Author.Tests.{le-leb, leb-true}
 use lib.Dec.{lit<}
-use Rattle.exact.specs.Fraction.{whole, _over_, _+q_, _*q_, _≤q_, _≈q_}
+use Rattle.exact.specs.Fraction.{whole, _over_, _+q_, _≤q_, _≈q_}
 use Rattle.exact.proofs.Polynomial.{num, _⊕_, _⊗_}
 use Rattle.exact.proofs.Certificate.{x0, x1, x2, x3, x4, x5, done, times, cert}
 use Rattle.exact.proofs.Shape.{shape, wholeE, overE, _*e_}

@@ -1,14 +1,12 @@
 -- What the code finds out, refusal by refusal, makes the answers of the definitions.
 use mathlib.Core.Path.{_≡_, refl, sym, ap, _∙_}
-use mathlib.Core.Bool.{true, false, not}
 use mathlib.Core.List.{List, [], _∷_, _++_}
 use Prim.Native.Nat.{ℕ, _+_, _≤_, _<_}
 use native.Mathlib.Omega.{arith}
-use native.Mathlib.Nat.{le-refl, le-trans, le-add-right}
+use native.Mathlib.Nat.{le-refl, le-add-right}
 use borrow.Author.Tests.{le-leb, leb-true, ltb-false, lt-ltb, le-ltb, ne-eqb}
 use lib.Dec.{ltb, lit≤, lit<}
 use lib.ListN.{length, drop}
-use Rattle.exact.specs.Fraction.{whole, _*q_, Least}
 use Rattle.train.specs.declared.Kmh.{Kmh}
 use Rattle.train.specs.declared.Train.{Train}
 use Rattle.train.specs.declared.Gradient.{Gradient}
@@ -20,7 +18,7 @@ use Rattle.train.proofs.Refusals.{Numbered, first-after, first-before, none-hol
 use Rattle.curve.specs.declared.Curve.{Curve}
 use Rattle.curve.specs.declared.Curve.the-variants.{Ebi, Sbi, W, P}
 use Rattle.curve.specs.declared.Course.{Course}
-use Rattle.curve.specs.Step.{formula, distance, strong}
+use Rattle.curve.specs.Step.{distance}
 use Rattle.curve.specs.Plan.{Near, Enough, placeOf}
 use Rattle.curve.specs.Agreement.{IsCourse}
 use Rattle.curve.proofs.Exact.{strong-is, distance-is, distance-least}

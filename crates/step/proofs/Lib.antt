@@ -1,3 +1,2 @@
 mod Places
 pub mod Answers
-pub mod Figures

@@ -1,8 +1,7 @@
-use mathlib.Core.Path.{_≡_, refl}
+use mathlib.Core.Path.{refl}
 use Prim.Native.Nat.{_+_, _*_, _≤_}
 use borrow.Author.Needs.{needs}
 use native.Mathlib.Omega.{arith}
-use Rattle.train.specs.Slope.{factor}
 use Rattle.train.proofs.Spans.{factor-small}
 use Rattle.curve.proofs.Steady.{T-is, R-is, di-is, power-is, delay-small, slope-small, power-small}
 use Rattle.curve.proofs.course_of.Statement.{statement}

@@ -1,9 +1,6 @@
 use mathlib.Core.Path.{_∙_}
-use Prim.Native.Nat.{_<_}
-use borrow.Author.Needs.{needs}
 use native.Mathlib.Nat.{mul-pos}
 use lib.Dec.{lit<}
-use Rattle.wide.specs.Value.{valueOf}
 use Rattle.curve.proofs.Bounds.{quotient-fits}
 use Rattle.curve.proofs.distance.Statement.{statement}
 use Rattle.curve.proofs.distance.Tie as tie

@@ -1,8 +1,7 @@
-use mathlib.Core.Path.{_≡_}
 use Prim.Native.Nat.{_≤_}
 use borrow.Author.Needs.{needs}
 use native.Mathlib.Omega.{arith}
-use Rattle.curve.specs.Plan.{sOf, lossOf, aMost}
+use Rattle.curve.specs.Plan.{aMost}
 use Rattle.curve.proofs.Bounds.{s-small, loss-small}
 use Rattle.curve.proofs.is_strong.Statement.{statement}
 use Rattle.curve.proofs.is_strong.Tie as tie

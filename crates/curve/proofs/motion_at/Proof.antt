@@ -4,7 +4,7 @@ use borrow.Author.Needs.{needs}
 use native.Mathlib.Nat.{mul-comm, le-trans}
 use native.Mathlib.Omega.{arith}
 use Rattle.wide.specs.Value.{valueOf}
-use Rattle.curve.specs.Plan.{v9, sOf, betaOf, gainOf, lossOf, squareOf, aMost, betaMost, speedMost}
+use Rattle.curve.specs.Plan.{v9, squareOf, aMost, betaMost, speedMost}
 use Rattle.curve.proofs.Bounds.{s-small, gain-small, beta-small, speed-small, part-fits, over-fits}
 use Rattle.curve.proofs.motion_at.Statement.{statement}
 use Rattle.curve.proofs.motion_at.Tie as tie

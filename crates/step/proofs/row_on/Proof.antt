@@ -1,11 +1,9 @@
-use mathlib.Core.Path.{_≡_}
-use Prim.Native.Nat.{_-_}
 use borrow.Author.Needs.{needs}
 use denote.Ref.{now}
 use native.Mathlib.Nat.{le-refl}
 use native.Mathlib.Omega.{arith}
 use Rattle.curve.specs.declared.Course.{Course}
-use Rattle.step.specs.declared.Begun.the-variants.{Refused, Ready}
+use Rattle.step.specs.declared.Begun.the-variants.{Refused}
 use Rattle.step.specs.Begin.{Starts, IsReady}
 use Rattle.step.proofs.Answers.{row-refused, row-short, enough-on, row-given}
 use Rattle.step.proofs.row_on.Statement.{statement}

@@ -1,5 +1,4 @@
 use Prim.Native.Nat.{_*_, _≤_}
-use borrow.Author.Needs.{needs}
 use native.Mathlib.Omega.{arith}
 use Rattle.curve.specs.Plan.{betaOf, v9}
 use Rattle.curve.proofs.Bounds.{slope-way}

@@ -1,10 +1,7 @@
-use mathlib.Core.Path.{_≡_}
 use Prim.Native.Nat.{ℕ, _+_, _*_, _≤_}
 use borrow.Author.Needs.{needs}
 use native.Mathlib.Omega.{arith}
-use Rattle.train.specs.declared.BrakeType.{BrakeType}
 use Rattle.train.specs.declared.delay.DelayRow.{DelayRow}
-use Rattle.train.specs.Delay.{rowOf}
 use Rattle.train.proofs.Rows.{row-is, row-small}
 use Rattle.train.proofs.delay.row_delay.Statement.{statement}
 use Rattle.train.proofs.delay.row_delay.Tie as tie

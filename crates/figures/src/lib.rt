@@ -1,0 +1,1 @@
+// Document 01, "Figures to hold": the starred rows, proved of the definitions in proofs/Starred.antt.
