@@ -48,9 +48,6 @@ pub fn beta(c: Course, v: u64, v0: u64) -> u64
     let speed = v * 2500000000000000 + 9 * c.dn7 * c.t8;
     let lost = 9 * c.up7 * c.t8;
     let target = v0 * 2500000000000000;
-    if speed > lost + target {
-        speed - lost
-    } else {
-        target
-    }
+    let floor = lost + target;
+    if speed > floor { speed - lost } else { target }
 }

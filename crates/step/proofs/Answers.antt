@@ -25,7 +25,8 @@ use Rattle.curve.proofs.Exact.{strong-is, distance-is, distance-least}
 use Rattle.curve.proofs.Rising.{strong-stays}
 use Rattle.step.specs.declared.Distances.{Distances}
 use Rattle.step.specs.declared.Written.{Written}
-use Rattle.step.specs.Answer.{inputs, refused, weak, stepRefusals, distances, stepOf, Exact, upTo, speeds, rowRefusals, rowAnswer, rowAfter, RowExact}
+use Rattle.step.specs.Answer.{inputs, refused, weak, stepRefusals, stepOf, Exact, upTo, speeds, rowRefusals, rowAnswer, rowAfter, RowExact}
+use Rattle.step.specs.Begin.{placesOf}
 use Rattle.step.proofs.Places.{same-places, place-at}
 
 -- what the inputs do not turn away
@@ -59,11 +60,12 @@ module _ (t : Train) (g : Gradient) (v v0 : Kmh) where
   unfolding stepOf
   step-refused n l e = (rw (e, ne-eqb n 0 (λ i. omega arith)), λ z. absurd (let k : n ≡ 0 = z in omega arith))
 
-  pub step-given : (c : Course) → firstOf (stepRefusals first t g v v0) ≡ 0 → v0 .0 ≤ v .0 → IsCourse first t g c → Enough c (v .0) (v0 .0) → Step (distances first t g v v0)
+  pub step-given : (c : Course) → firstOf (stepRefusals first t g v v0) ≡ 0 → v0 .0 ≤ v .0 → IsCourse first t g c → Enough c (v .0) (v0 .0) → Step (placesOf c v v0)
   unfolding stepOf
   step-given c z ahead is enough =
+      let at = distance-is first t g c is v v0 ahead enough in
       let least = distance-least first t g c is v v0 ahead enough in
-      (rw z, λ i. record { ebi = least Ebi; sbi = least Sbi; w = least W; p = least P })
+      rw (at Ebi, at Sbi, at W, at P) (rw z, λ i. record { ebi = least Ebi; sbi = least Sbi; w = least W; p = least P })
 
 -- a row's answer, the list afterwards, and that each place is exact
 module _ (t : Train) (g : Gradient) (x : Curve) (v0 : Kmh) (lent : List ℕ) where

@@ -1,4 +1,4 @@
--- What the code knows before it works out a distance.
+-- What the code knows before it works out a distance, and the four distances by the numbers that it works with.
 use mathlib.Core.Path.{_≡_}
 use mathlib.Core.List.{_++_}
 use Prim.Native.Nat.{ℕ, _<_}
@@ -8,8 +8,10 @@ use Rattle.train.specs.declared.Gradient.{Gradient}
 use Rattle.train.specs.Coefficients.{first}
 use Rattle.train.specs.Refusal.{firstOf}
 use Rattle.curve.specs.declared.Course.{Course}
-use Rattle.curve.specs.Plan.{Near, Enough}
+use Rattle.curve.specs.declared.Curve.the-variants.{Ebi, Sbi, W, P}
+use Rattle.curve.specs.Plan.{Near, Enough, placeOf}
 use Rattle.curve.specs.Agreement.{IsCourse}
+use Rattle.step.specs.declared.Distances.{Distances}
 use Rattle.step.specs.declared.Begun.{Begun}
 use Rattle.step.specs.declared.Begun.the-variants.{Refused, Ready}
 use Rattle.step.specs.Answer.{inputs, weak}
@@ -28,3 +30,13 @@ module _ (t : Train) (g : Gradient) (v v0 at : Kmh) where
   abbrev pub Starts : Begun → Type 0
   Starts (Refused n) = (0 < n) × (refusal ≡ n)
   Starts (Ready c) = IsReady c
+
+abbrev pub placesOf : Course → Kmh → Kmh → Distances
+placesOf c v v0 =
+    record {
+      refusal = 0;
+      ebi = record { 0 = placeOf Ebi c (v .0) (v0 .0) };
+      sbi = record { 0 = placeOf Sbi c (v .0) (v0 .0) };
+      w = record { 0 = placeOf W c (v .0) (v0 .0) };
+      p = record { 0 = placeOf P c (v .0) (v0 .0) };
+    }

@@ -6,9 +6,9 @@ ghost use lib.ListN.{length, drop};
 ghost use Rattle.train.specs.Coefficients.{first};
 ghost use Rattle.train.specs.Gradient.{gradientOf};
 ghost use Rattle.train.specs.Refusal.{firstOf};
-ghost use Rattle.curve.specs.Plan.{Small, Enough, placeOf};
+ghost use Rattle.curve.specs.Plan.{Small, Near, Enough, placeOf};
 ghost use Rattle.step.specs.Answer.{inputs, refused, stepOf, Exact, upTo, rowAnswer, rowAfter, RowExact};
-ghost use Rattle.step.specs.Begin.{Starts};
+ghost use Rattle.step.specs.Begin.{Starts, placesOf};
 use curve::Course;
 use curve::Curve;
 use train::Gradient;
@@ -86,6 +86,21 @@ fn refused_with(n: u32) -> Distances
     }
 }
 
+// The four distances of a train that is strong enough.
+fn distances_at(c: Course, v: Kmh, v0: Kmh) -> Distances
+    requires { ⌜ Small c × Near (v .0) (v0 .0) × Enough c (v .0) (v0 .0) ⌝ }
+    ensures { λ r. ⌜ r ≡ placesOf c v v0 ⌝ }
+{
+    let m = curve::motion_at(c, v, v0);
+    Distances {
+        refusal: 0,
+        ebi: curve::distance(Curve::Ebi, c, m),
+        sbi: curve::distance(Curve::Sbi, c, m),
+        w: curve::distance(Curve::W, c, m),
+        p: curve::distance(Curve::P, c, m),
+    }
+}
+
 // The four distances, on a gradient as rise and fall.
 pub fn step_on(train: Train, v: Kmh, v0: Kmh, g: Gradient) -> Distances
     ensures { λ r. ⌜ (r ≡ stepOf first train g v v0) × (r .refusal ≡ 0 → Exact first train g v v0 r) ⌝ }
@@ -93,16 +108,7 @@ pub fn step_on(train: Train, v: Kmh, v0: Kmh, g: Gradient) -> Distances
     let begun = start(train, v, v0, v, g);
     match begun {
         Begun::Refused(n) => refused_with(n),
-        Begun::Ready(c) => {
-            let m = curve::motion_at(c, v, v0);
-            Distances {
-                refusal: 0,
-                ebi: curve::distance(Curve::Ebi, c, m),
-                sbi: curve::distance(Curve::Sbi, c, m),
-                w: curve::distance(Curve::W, c, m),
-                p: curve::distance(Curve::P, c, m),
-            }
-        }
+        Begun::Ready(c) => distances_at(c, v, v0),
     }
 }
 

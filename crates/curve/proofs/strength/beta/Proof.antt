@@ -32,8 +32,8 @@ mul-lost-2 c = omega (arith, up (c .before .before .before .before))
 mul-target : tie.Need-mul-target
 mul-target c = let n = c .before .before .before .before .pre .1 in omega (arith, n .high, n .ahead)
 
-add-if1 : tie.Need-add-if1
-add-if1 c = let s = c .before .before .before .before in omega (arith, up s, s .pre .1 .high, s .pre .1 .ahead)
+add-floor : tie.Need-add-floor
+add-floor c = let s = c .before .before .before .before in omega (arith, up s, s .pre .1 .high, s .pre .1 .ahead)
 
 sub-result : tie.Need-sub-result
 sub-result c = omega (arith, c .if1 .taken)
@@ -57,7 +57,7 @@ beta-spec =
     mul-lost
     mul-lost-2
     mul-target
-    add-if1
+    add-floor
     sub-result
     returns
     returns-2)
