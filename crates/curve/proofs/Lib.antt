@@ -1,4 +1,2 @@
 pub mod Exact
 pub mod Bounds
-mod Steady
-pub mod Rising

@@ -1,23 +1,17 @@
-// One curve's distance at one pair of speeds: document 002's step model in whole numbers.
-// What the speeds do not change is a Course; what one pair of speeds gives, for every curve, is a Motion.
+// One curve's distance at one pair of speeds, in whole numbers. Document 002, sections 7 and 8.
 ghost use mathlib.Core.Path.{_≡_};
 ghost use Prim.Native.Nat.{_*_, _^_, _≤_};
 ghost use lib.Dec.{leb};
 ghost use Rattle.exact.specs.Fraction.{_over_, raised};
 ghost use Rattle.wide.specs.Value.{valueOf};
-ghost use Rattle.train.specs.Coefficients.{Within};
-ghost use Rattle.train.specs.Gradient.{Moderate};
-ghost use Rattle.curve.specs.Plan.{serviceOf, warningOf, sumOf, strongOf, Small, Near, Enough, IsMotion, Moving};
-ghost use Rattle.curve.specs.Agreement.{IsCourse};
-use train::Coefficients;
-use train::Gradient;
+ghost use Rattle.braking.specs.Plan.{Small, Near, Enough};
+ghost use Rattle.curve.specs.Plan.{serviceOf, warningOf, sumOf, IsMotion, Moving};
+use braking::Course;
+use braking::strength;
 use train::Kmh;
 use train::Metre;
 use train::Millimetre;
-use train::Train;
 use wide::Wide;
-
-mod strength;
 
 pub enum Curve {
     Ebi,
@@ -26,20 +20,7 @@ pub enum Curve {
     P,
 }
 
-// T and tR + tf in 10⁻⁸ s; an uphill and a downhill slope's deceleration and Kr · dr in 10⁻⁷ m/s²; cr in hundredths, nC in thousandths, VC in km/h.
-pub struct Course {
-    pub t8: u64,
-    pub r8: u64,
-    pub up7: u64,
-    pub dn7: u64,
-    pub power: u64,
-    pub cr: u64,
-    pub plus: u64,
-    pub minus: u64,
-    pub vc: u64,
-}
-
-// The deceleration in 10⁻¹² m/s² by the greater of V and 1 km/h; Vβ and V in m/s / (9·10¹⁵); the braking part of a sum; what it is over to be millimetres.
+// What one pair of speeds gives, for every curve: the deceleration in 10⁻¹² m/s² by the greater of V and 1 km/h; Vβ and V in m/s / (9·10¹⁵); the braking part of a sum; what it is over to be millimetres.
 pub struct Motion {
     pub a: u64,
     pub beta: u64,
@@ -52,42 +33,6 @@ pub struct Motion {
 struct Ahead {
     service: u64,
     warning: u64,
-}
-
-// The course of a train on a gradient.
-pub fn course_of(k: Coefficients, train: Train, g: Gradient) -> Course
-    requires { ⌜ Within k × (train .weight ≤ 160) × (train .length .0 ≤ 1000) × Moderate g ⌝ }
-    ensures { λ r. ⌜ IsCourse k train g r ⌝ }
-{
-    let nc = k.nc;
-    let vc = k.vc;
-    let tf8 = k.dt as u64 * train::delay::of_train(train) as u64;
-    let t8 = k.h as u64 * 10000000 + tf8;
-    let r8 = 100000000 + tf8;
-    let slope = train::slope::factor_of(k, g) as u64 * 981;
-    let up7 = slope * g.rise as u64;
-    let dn7 = slope * g.fall as u64;
-    let power = k.kr as u64 * (685 * train.weight as u64 + 9400);
-    Course {
-        t8: t8,
-        r8: r8,
-        up7: up7,
-        dn7: dn7,
-        power: power,
-        cr: k.cr as u64,
-        plus: nc.plus as u64,
-        minus: nc.minus as u64,
-        vc: vc.0 as u64,
-    }
-}
-
-// Whether the train brakes at 0.05 m/s² or more.
-pub fn is_strong(c: Course, v: Kmh, v0: Kmh) -> bool
-    requires { ⌜ Small c × Near (v .0) (v0 .0) ⌝ }
-    ensures { λ r. ⌜ r ≡ strongOf c (v .0) (v0 .0) ⌝ }
-{
-    let s = strength::at(c, v.0 as u64, v0.0 as u64);
-    s.loss + 50000000000 * s.unit <= s.gain
 }
 
 // The motion of a train that is strong enough.

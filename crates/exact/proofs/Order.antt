@@ -1,5 +1,5 @@
 -- The order is that of the rational numbers: whole numbers keep theirs, and it goes along with sums, products and the larger of two.
-use mathlib.Core.Path.{refl}
+use mathlib.Core.Path.{_≡_, refl, sym}
 use mathlib.Core.Bool.{Bool, true, false, not, cond}
 use mathlib.Core.Logic.{_↔_}
 use mathlib.Core.List.{[], _∷_}
@@ -7,7 +7,8 @@ use Prim.Native.Nat.{ℕ, _+_, _*_, _-_, _≤_, _<_}
 use native.Mathlib.Omega.{arith}
 use native.Mathlib.Nat.{le-refl, le-of-lt, le-antisymm, le-of-mul-le-mul-left, lt-of-mul-lt-mul-left}
 use native.Mathlib.Numerals.{add-one}
-use lib.Dec.{T, leb→le, nleb→lt}
+use borrow.Author.Tests.{le-leb, lt-leb}
+use lib.Dec.{T, leb, leb→le, nleb→lt}
 use Rattle.exact.specs.Fraction.{Fraction, whole, cross, _+q_, _*q_, _≤q_, _<q_, _≈q_, leq, maxq}
 use Rattle.exact.proofs.Polynomial.{num, _⊕_, _⊗_}
 use Rattle.exact.proofs.Certificate.{x2, x5, x6, x7, x8, x9, done, times, cert}
@@ -15,6 +16,14 @@ use Rattle.exact.proofs.Shape.{_+e_, _*e_, crossE, A, B, C, env}
 
 pub whole-≤ : (n m : ℕ) → (n ≤ m) ↔ (whole n ≤q whole m)
 whole-≤ n m = ((λ h. omega arith), (λ h. omega arith))
+
+-- two tests agree where the orders do
+pub leb-agree : (m n m′ n′ : ℕ) → (m ≤ n → m′ ≤ n′) → (n < m → n′ < m′) → leb m n ≡ leb m′ n′
+leb-agree m n m′ n′ f g = go (leb m n) (λ h. f (leb→le m n h)) (λ h. g (nleb→lt m n h))
+  where
+    go : (s : Bool) → (T s → m′ ≤ n′) → (T (not s) → n′ < m′) → s ≡ leb m′ n′
+    go true h k = sym (le-leb m′ n′ (h tt))
+    go false h k = sym (lt-leb m′ n′ (k tt))
 
 -- the test: one of the two holds
 pub leq-true : (a b : Fraction) → T (leq a b) → a ≤q b

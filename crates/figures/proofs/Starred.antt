@@ -16,7 +16,8 @@ use Rattle.train.specs.Delay.{passengerDelay, freightDelay, delay, tf}
 use Rattle.train.specs.Slope.{factor, di, dr}
 use Rattle.curve.specs.declared.Curve.{Curve}
 use Rattle.curve.specs.declared.Curve.the-variants.{Ebi, Sbi, W, P}
-use Rattle.curve.specs.Step.{T, K0, KC, dp, Vβ, EBI, SBI, distance, strong}
+use Rattle.braking.specs.Braking.{T, K0, KC, dp, Vβ, strong}
+use Rattle.curve.specs.Step.{EBI, SBI, distance}
 use Rattle.curve.specs.Step as step
 use Rattle.step.specs.declared.Distances.{Distances}
 use Rattle.step.specs.Answer.{stepOf}

@@ -17,12 +17,14 @@ use Rattle.train.specs.Refusal.{Refusal, _gives_, firstOf}
 use Rattle.train.proofs.Refusals.{Numbered, first-after, first-before, none-holds}
 use Rattle.curve.specs.declared.Curve.{Curve}
 use Rattle.curve.specs.declared.Curve.the-variants.{Ebi, Sbi, W, P}
-use Rattle.curve.specs.declared.Course.{Course}
+use Rattle.braking.specs.declared.Course.{Course}
 use Rattle.curve.specs.Step.{distance}
-use Rattle.curve.specs.Plan.{Near, Enough, placeOf}
-use Rattle.curve.specs.Agreement.{IsCourse}
-use Rattle.curve.proofs.Exact.{strong-is, distance-is, distance-least}
-use Rattle.curve.proofs.Rising.{strong-stays}
+use Rattle.braking.specs.Plan.{Near, Enough}
+use Rattle.curve.specs.Plan.{placeOf}
+use Rattle.braking.specs.Agreement.{IsCourse}
+use Rattle.braking.proofs.Exact.{strong-is}
+use Rattle.curve.proofs.Exact.{distance-is, distance-least}
+use Rattle.braking.proofs.Rising.{strong-stays}
 use Rattle.step.specs.declared.Distances.{Distances}
 use Rattle.step.specs.declared.Written.{Written}
 use Rattle.step.specs.Answer.{inputs, refused, weak, stepRefusals, stepOf, Exact, upTo, speeds, rowRefusals, rowAnswer, rowAfter, RowExact}

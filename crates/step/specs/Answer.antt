@@ -13,7 +13,8 @@ use Rattle.train.specs.Units.{kmh}
 use Rattle.train.specs.Refusal.{Refusal, _gives_, firstOf, trainRefusals, gradientRefusals}
 use Rattle.curve.specs.declared.Curve.{Curve}
 use Rattle.curve.specs.declared.Curve.the-variants.{Ebi, Sbi, W, P}
-use Rattle.curve.specs.Step.{formula, distance, strong}
+use Rattle.braking.specs.Braking.{strong}
+use Rattle.curve.specs.Step.{formula, distance}
 use Rattle.step.specs.declared.Distances.{Distances}
 use Rattle.step.specs.declared.Written.{Written}
 

@@ -7,10 +7,11 @@ use Rattle.train.specs.declared.Train.{Train}
 use Rattle.train.specs.declared.Gradient.{Gradient}
 use Rattle.train.specs.Coefficients.{first}
 use Rattle.train.specs.Refusal.{firstOf}
-use Rattle.curve.specs.declared.Course.{Course}
+use Rattle.braking.specs.declared.Course.{Course}
 use Rattle.curve.specs.declared.Curve.the-variants.{Ebi, Sbi, W, P}
-use Rattle.curve.specs.Plan.{Near, Enough, placeOf}
-use Rattle.curve.specs.Agreement.{IsCourse}
+use Rattle.braking.specs.Plan.{Near, Enough}
+use Rattle.curve.specs.Plan.{placeOf}
+use Rattle.braking.specs.Agreement.{IsCourse}
 use Rattle.step.specs.declared.Distances.{Distances}
 use Rattle.step.specs.declared.Begun.{Begun}
 use Rattle.step.specs.declared.Begun.the-variants.{Refused, Ready}

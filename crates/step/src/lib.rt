@@ -6,10 +6,11 @@ ghost use lib.ListN.{length, drop};
 ghost use Rattle.train.specs.Coefficients.{first};
 ghost use Rattle.train.specs.Gradient.{gradientOf};
 ghost use Rattle.train.specs.Refusal.{firstOf};
-ghost use Rattle.curve.specs.Plan.{Small, Near, Enough, placeOf};
+ghost use Rattle.braking.specs.Plan.{Small, Near, Enough};
+ghost use Rattle.curve.specs.Plan.{placeOf};
 ghost use Rattle.step.specs.Answer.{inputs, refused, stepOf, Exact, upTo, rowAnswer, rowAfter, RowExact};
 ghost use Rattle.step.specs.Begin.{Starts, placesOf};
-use curve::Course;
+use braking::Course;
 use curve::Curve;
 use train::Gradient;
 use train::Kmh;
@@ -66,8 +67,8 @@ fn start(train: Train, v: Kmh, v0: Kmh, at: Kmh, g: Gradient) -> Begun
     if bad > 0 {
         return Begun::Refused(bad);
     }
-    let c = curve::course_of(train::first_values(), train, g);
-    if !curve::is_strong(c, at, v0) {
+    let c = braking::course_of(train::first_values(), train, g);
+    if !braking::strength::is_strong(c, at, v0) {
         return Begun::Refused(10);
     }
     Begun::Ready(c)

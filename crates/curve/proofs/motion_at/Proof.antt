@@ -4,8 +4,10 @@ use borrow.Author.Needs.{needs}
 use native.Mathlib.Nat.{mul-comm, le-trans}
 use native.Mathlib.Omega.{arith}
 use Rattle.wide.specs.Value.{valueOf}
-use Rattle.curve.specs.Plan.{v9, squareOf, aMost, betaMost, speedMost}
-use Rattle.curve.proofs.Bounds.{s-small, gain-small, beta-small, speed-small, part-fits, over-fits}
+use Rattle.braking.specs.Plan.{v9, aMost, betaMost, speedMost}
+use Rattle.curve.specs.Plan.{squareOf}
+use Rattle.braking.proofs.Bounds.{s-small, gain-small, beta-small, speed-small}
+use Rattle.curve.proofs.Bounds.{part-fits, over-fits}
 use Rattle.curve.proofs.motion_at.Statement.{statement}
 use Rattle.curve.proofs.motion_at.Tie as tie
 

@@ -4,7 +4,8 @@ use borrow.Author.Needs.{needs}
 use native.Mathlib.Nat.{mul-comm, le-add-right, lt-of-le-of-lt}
 use native.Mathlib.Omega.{arith}
 use Rattle.wide.specs.Value.{valueOf, limit}
-use Rattle.curve.specs.Plan.{wayOf, sumOf, aMost}
+use Rattle.braking.specs.Plan.{aMost}
+use Rattle.curve.specs.Plan.{wayOf, sumOf}
 use Rattle.curve.proofs.Bounds.{steady-small, way-fits, sum-fits}
 use Rattle.curve.proofs.sum_of.Statement.{statement}
 use Rattle.curve.proofs.sum_of.Tie as tie

@@ -4,7 +4,8 @@ use Rattle.exact.specs.Fraction.{_over_, raised}
 use Rattle.wide.specs.Value.{valueOf}
 use Rattle.curve.specs.declared.Curve.{Curve}
 use Rattle.curve.specs.declared.Curve.the-variants.{Ebi, Sbi, W, P}
-use Rattle.curve.specs.Plan.{Small, Moving, sumOf, placeOf}
+use Rattle.braking.specs.Plan.{Small}
+use Rattle.curve.specs.Plan.{Moving, sumOf, placeOf}
 use Rattle.curve.proofs.Bounds.{moving}
 use Rattle.curve.proofs.Exact.{place-is}
 use Rattle.step.proofs.distances_at.Statement.{statement}

@@ -5,7 +5,8 @@ use lib.ListN.{length, take, drop, length-set}
 use lib.Seq.{drop-set-lt}
 use borrow.Author.Needs.{needs}
 use denote.Ref.{now}
-use Rattle.curve.specs.Plan.{Small, Near, Enough, placeOf}
+use Rattle.braking.specs.Plan.{Small, Near, Enough}
+use Rattle.curve.specs.Plan.{placeOf}
 use Rattle.curve.proofs.Bounds.{moving}
 use Rattle.curve.proofs.Exact.{place-is}
 use Rattle.step.specs.Answer.{upTo}

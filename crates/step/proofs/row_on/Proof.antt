@@ -2,7 +2,7 @@ use borrow.Author.Needs.{needs}
 use denote.Ref.{now}
 use native.Mathlib.Nat.{le-refl}
 use native.Mathlib.Omega.{arith}
-use Rattle.curve.specs.declared.Course.{Course}
+use Rattle.braking.specs.declared.Course.{Course}
 use Rattle.step.specs.declared.Begun.the-variants.{Refused}
 use Rattle.step.specs.Begin.{Starts, IsReady}
 use Rattle.step.proofs.Answers.{row-refused, row-short, enough-on, row-given}

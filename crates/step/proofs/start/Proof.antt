@@ -10,10 +10,10 @@ use Rattle.train.specs.Coefficients.{first}
 use Rattle.train.specs.Refusal.{firstOf}
 use Rattle.train.proofs.Refusals.{first-after, first-before}
 use Rattle.train.proofs.Spans.{first-within}
-use Rattle.curve.specs.Plan.{Near}
-use Rattle.curve.specs.Step.{strong}
-use Rattle.curve.specs.Agreement.{IsCourse}
-use Rattle.curve.proofs.Exact.{strong-is}
+use Rattle.braking.specs.Plan.{Near}
+use Rattle.braking.specs.Braking.{strong}
+use Rattle.braking.specs.Agreement.{IsCourse}
+use Rattle.braking.proofs.Exact.{strong-is}
 use Rattle.step.specs.Answer.{inputs, weak}
 use Rattle.step.proofs.Answers.{Accepted, inputs-numbered, inputs-fit}
 use Rattle.step.proofs.start.Statement.{statement}

@@ -1,7 +1,7 @@
 use native.Mathlib.Omega.{arith}
-use Rattle.curve.specs.Plan.{sOf}
-use Rattle.curve.proofs.strength.positive.Statement.{statement}
-use Rattle.curve.proofs.strength.positive.Tie as tie
+use Rattle.braking.specs.Plan.{sOf}
+use Rattle.braking.proofs.strength.positive.Statement.{statement}
+use Rattle.braking.proofs.strength.positive.Tie as tie
 
 returns : tie.Need-returns
 unfolding sOf

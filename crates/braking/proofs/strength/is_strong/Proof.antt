@@ -1,10 +1,10 @@
 use Prim.Native.Nat.{_≤_}
 use borrow.Author.Needs.{needs}
 use native.Mathlib.Omega.{arith}
-use Rattle.curve.specs.Plan.{aMost}
-use Rattle.curve.proofs.Bounds.{s-small, loss-small}
-use Rattle.curve.proofs.is_strong.Statement.{statement}
-use Rattle.curve.proofs.is_strong.Tie as tie
+use Rattle.braking.specs.Plan.{aMost}
+use Rattle.braking.proofs.Bounds.{s-small, loss-small}
+use Rattle.braking.proofs.strength.is_strong.Statement.{statement}
+use Rattle.braking.proofs.strength.is_strong.Tie as tie
 
 -- the two terms of the sum
 known : (c : tie.After-at) → (c .at .result .unit ≤ 330) × (c .at .result .loss ≤ aMost)

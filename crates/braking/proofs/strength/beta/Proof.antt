@@ -1,9 +1,9 @@
 use Prim.Native.Nat.{_*_, _≤_}
 use native.Mathlib.Omega.{arith}
-use Rattle.curve.specs.Plan.{betaOf, v9}
-use Rattle.curve.proofs.Bounds.{slope-way}
-use Rattle.curve.proofs.strength.beta.Statement.{statement}
-use Rattle.curve.proofs.strength.beta.Tie as tie
+use Rattle.braking.specs.Plan.{betaOf, v9}
+use Rattle.braking.proofs.Bounds.{slope-way}
+use Rattle.braking.proofs.strength.beta.Statement.{statement}
+use Rattle.braking.proofs.strength.beta.Tie as tie
 
 down : (c : tie.Start) → 9 * c .args .c .dn7 * c .args .c .t8 ≤ 155743560000000000
 down c = slope-way (c .args .c .dn7) (c .args .c .t8) (c .pre .0 .dn7) (c .pre .0 .t8)

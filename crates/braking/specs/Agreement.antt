@@ -7,9 +7,9 @@ use Rattle.train.specs.declared.Gradient.{Gradient}
 use Rattle.train.specs.declared.Coefficients.{Coefficients}
 use Rattle.train.specs.Delay.{tf}
 use Rattle.train.specs.Slope.{di, dr}
-use Rattle.curve.specs.declared.Course.{Course}
-use Rattle.curve.specs.Step.{T, tR}
-use Rattle.curve.specs.Plan.{Small}
+use Rattle.braking.specs.declared.Course.{Course}
+use Rattle.braking.specs.Braking.{T, tR}
+use Rattle.braking.specs.Plan.{Small}
 
 pub record IsCourse (k : Coefficients) (t : Train) (g : Gradient) (c : Course) : Type 0 where
   pub T : T k t ≈q c .t8 over (10 ^ 8)

@@ -3,9 +3,9 @@ use Prim.Native.Nat.{_+_, _*_, _≤_}
 use borrow.Author.Needs.{needs}
 use native.Mathlib.Omega.{arith}
 use Rattle.train.proofs.Spans.{factor-small}
-use Rattle.curve.proofs.Steady.{T-is, R-is, di-is, power-is, delay-small, slope-small, power-small}
-use Rattle.curve.proofs.course_of.Statement.{statement}
-use Rattle.curve.proofs.course_of.Tie as tie
+use Rattle.braking.proofs.Steady.{T-is, R-is, di-is, power-is, delay-small, slope-small, power-small}
+use Rattle.braking.proofs.course_of.Statement.{statement}
+use Rattle.braking.proofs.course_of.Tie as tie
 
 tf-small : (c : tie.After-of-train) → c .before .before .before .before .args .k .dt * c .of-train .result ≤ 3700000000
 tf-small c = delay-small _ _ (c .before .before .before .before .pre .0 .dt) (c .of-train .ensures .1)

@@ -1,11 +1,11 @@
 use Prim.Native.Nat.{ℕ, _+_, _*_, _-_, _≤_}
 use borrow.Author.Needs.{needs}
 use native.Mathlib.Omega.{arith}
-use Rattle.curve.specs.declared.Course.{Course}
-use Rattle.curve.specs.Plan.{sOf, brakeOf, gainOf, lossOf, Small, Near}
-use Rattle.curve.proofs.Bounds.{s-small, target-small, brake-small, fast-small, slope-small, gain-small, loss-small}
-use Rattle.curve.proofs.strength.at.Statement.{statement}
-use Rattle.curve.proofs.strength.at.Tie as tie
+use Rattle.braking.specs.declared.Course.{Course}
+use Rattle.braking.specs.Plan.{sOf, brakeOf, gainOf, lossOf, Small, Near}
+use Rattle.braking.proofs.Bounds.{s-small, target-small, brake-small, fast-small, slope-small, gain-small, loss-small}
+use Rattle.braking.proofs.strength.at.Statement.{statement}
+use Rattle.braking.proofs.strength.at.Tie as tie
 
 -- what keeps each term small, u the unit and x the speed above VC
 record Sizes (c : Course) (u x v0 : ℕ) : Type 0 where

@@ -1,8 +1,9 @@
 // How strongly the train brakes, and the speed that is left when it begins to.
 ghost use mathlib.Core.Path.{_≡_};
 ghost use Prim.Native.Nat.{_-_};
-ghost use Rattle.curve.specs.Plan.{sOf, gainOf, lossOf, betaOf, Small, Near};
+ghost use Rattle.braking.specs.Plan.{sOf, gainOf, lossOf, strongOf, betaOf, Small, Near};
 use super::Course;
+use train::Kmh;
 
 // The deceleration is gain - loss in m/s² / (10¹² unit).
 pub struct Strength {
@@ -38,6 +39,15 @@ pub fn at(c: Course, v: u64, v0: u64) -> Strength
         gain: brake * (1000 + c.plus * fast) + c.up7 * slope,
         loss: brake * (c.minus * fast) + c.dn7 * slope,
     }
+}
+
+// Whether the train brakes at 0.05 m/s² or more.
+pub fn is_strong(c: Course, v: Kmh, v0: Kmh) -> bool
+    requires { ⌜ Small c × Near (v .0) (v0 .0) ⌝ }
+    ensures { λ r. ⌜ r ≡ strongOf c (v .0) (v0 .0) ⌝ }
+{
+    let s = at(c, v.0 as u64, v0.0 as u64);
+    s.loss + 50000000000 * s.unit <= s.gain
 }
 
 // Vβ: the speed after T, never below the target.

@@ -15,7 +15,7 @@ use Rattle.train.specs.declared.Gradient.{Gradient}
 use Rattle.train.specs.declared.Coefficients.{Coefficients}
 use Rattle.train.specs.Delay.{delay, tf}
 use Rattle.train.specs.Slope.{factor, di, dr}
-use Rattle.curve.specs.Step.{T, tR}
+use Rattle.braking.specs.Braking.{T, tR}
 
 module _ (k : Coefficients) (t : Train) (d : ℕ) (e : d over 1000000 ≈q delay t) where
   tf-is : tf k t ≈q (k .dt * d) over (10 ^ 8)

@@ -18,10 +18,10 @@ use Rattle.train.specs.declared.Train.{Train}
 use Rattle.train.specs.declared.Gradient.{Gradient}
 use Rattle.train.specs.declared.Coefficients.{Coefficients}
 use Rattle.train.specs.Slope.{di}
-use Rattle.curve.specs.Step.{KC, dp, strong}
-use Rattle.curve.specs.Plan.{sOf}
-use Rattle.curve.proofs.Exact.{s-pos, KC-is, K0-is}
-use Rattle.curve.proofs.Steady.{di-is, power-is}
+use Rattle.braking.specs.Braking.{KC, dp, strong}
+use Rattle.braking.specs.Plan.{sOf}
+use Rattle.braking.proofs.Exact.{s-pos, KC-is, K0-is}
+use Rattle.braking.proofs.Steady.{di-is, power-is}
 
 module _ (k : Coefficients) (t : Train) (g : Gradient) (plus : k .nc .plus ≡ 0) (minus : k .nc .minus ≡ 0) (part : k .cr ≤ 100) where
   abbrev power : ℕ

@@ -1,0 +1,4 @@
+pub mod Exact
+pub mod Bounds
+mod Steady
+pub mod Rising

@@ -1,0 +1,3 @@
+pub mod Braking
+pub mod Plan
+pub mod Agreement

@@ -1,0 +1,50 @@
+// How a train brakes on a gradient: what the speeds do not change of it, in whole numbers. Document 002, sections 7.1 to 7.4.
+ghost use Prim.Native.Nat.{_≤_};
+ghost use Rattle.train.specs.Coefficients.{Within};
+ghost use Rattle.train.specs.Gradient.{Moderate};
+ghost use Rattle.braking.specs.Agreement.{IsCourse};
+use train::Coefficients;
+use train::Gradient;
+use train::Train;
+
+pub mod strength;
+
+// T and tR + tf in 10⁻⁸ s; an uphill and a downhill slope's deceleration and Kr · dr in 10⁻⁷ m/s²; cr in hundredths, nC in thousandths, VC in km/h.
+pub struct Course {
+    pub t8: u64,
+    pub r8: u64,
+    pub up7: u64,
+    pub dn7: u64,
+    pub power: u64,
+    pub cr: u64,
+    pub plus: u64,
+    pub minus: u64,
+    pub vc: u64,
+}
+
+// The course of a train on a gradient.
+pub fn course_of(k: Coefficients, train: Train, g: Gradient) -> Course
+    requires { ⌜ Within k × (train .weight ≤ 160) × (train .length .0 ≤ 1000) × Moderate g ⌝ }
+    ensures { λ r. ⌜ IsCourse k train g r ⌝ }
+{
+    let nc = k.nc;
+    let vc = k.vc;
+    let tf8 = k.dt as u64 * train::delay::of_train(train) as u64;
+    let t8 = k.h as u64 * 10000000 + tf8;
+    let r8 = 100000000 + tf8;
+    let slope = train::slope::factor_of(k, g) as u64 * 981;
+    let up7 = slope * g.rise as u64;
+    let dn7 = slope * g.fall as u64;
+    let power = k.kr as u64 * (685 * train.weight as u64 + 9400);
+    Course {
+        t8: t8,
+        r8: r8,
+        up7: up7,
+        dn7: dn7,
+        power: power,
+        cr: k.cr as u64,
+        plus: nc.plus as u64,
+        minus: nc.minus as u64,
+        vc: vc.0 as u64,
+    }
+}
