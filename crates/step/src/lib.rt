@@ -46,13 +46,15 @@ fn turned_away(train: Train, v: Kmh, v0: Kmh, g: Gradient) -> u32
     if bad > 0 {
         return bad;
     }
-    if v.0 > 330 {
+    let fast = v.0;
+    let slow = v0.0;
+    if fast > 330 {
         return 3;
     }
-    if v0.0 > 330 {
+    if slow > 330 {
         return 3;
     }
-    if v0.0 > v.0 {
+    if slow > fast {
         return 4;
     }
     train::refusal::of_gradient(g)

@@ -1,5 +1,5 @@
 use mathlib.Core.Path.{_≡_, refl, _∙_}
-use Prim.Native.Nat.{ℕ, _*_, _≤_}
+use Prim.Native.Nat.{ℕ, _*_, _^_, _≤_, _<_}
 use borrow.Author.Needs.{needs}
 use native.Mathlib.Nat.{mul-comm, le-trans}
 use native.Mathlib.Omega.{arith}
@@ -33,6 +33,9 @@ square-is : (c : tie.After-product) → let s = c .before .before .before .befor
     valueOf (c .product .result) ≡ squareOf (c .before .beta .result) (v9 (s .args .v0 .0))
 unfolding squareOf v9
 square-is c = c .product .ensures
+
+speed-fits : (v : ℕ) → v ≤ 330 → v * 2500000000000000 < 2 ^ 64
+speed-fits v h = omega arith
 
 cast-fast : tie.Need-cast-fast
 cast-fast c = search needs
@@ -78,7 +81,7 @@ times-requires-2 : tie.Need-times-requires-2
 times-requires-2 c κs = rw (c .product2 .ensures) (over-fits _ (omega (arith, gain-most (c .before .before .before .before .before .before))))
 
 mul-t14 : tie.Need-mul-t14
-mul-t14 c = omega (arith, c .before .before .before .before .before .before .before .before .before .before .pre .1 .high)
+mul-t14 c = record { fits = speed-fits _ (c .before .before .before .before .before .before .before .before .before .before .pre .1 .high) }
 
 speed-is : (v : ℕ) → v * 2500000000000000 ≡ v9 v
 unfolding v9

@@ -37,7 +37,7 @@ returns : tie.Need-returns
 returns c =
     let r = c .before .before .before in
     let a = r .before .before .before .before .before .before .args in
-    row-short (a .train) (a .g) (a .curve) (a .v0) (now (a .out)) (ready r .accepted) (c .if1 .taken)
+    row-short (a .train) (a .g) (a .curve) (a .v0) (now (a .out)) (ready r .accepted) (omega (arith, c .if1 .taken))
 
 fill-requires : tie.Need-fill-requires
 fill-requires c κs =
@@ -46,7 +46,7 @@ fill-requires c κs =
     let s = ready r in
     let h = s .speeds .high in
     let o = s .speeds .ahead in
-    (s .course .small, λ i l. enough-on (a .train) (a .g) (a .curve) (a .v0) (now (a .out)) (s .accepted) (course r) (s .course) (s .enough) i, omega arith, c .before .if1 .left)
+    (s .course .small, λ i l. enough-on (a .train) (a .g) (a .curve) (a .v0) (now (a .out)) (s .accepted) (course r) (s .course) (s .enough) i, omega arith, omega (arith, c .before .if1 .left))
 
 returns-2 : tie.Need-returns-2
 returns-2 c =
@@ -64,7 +64,7 @@ returns-3 c =
     let r = i .before .before .before in
     let a = r .before .before .before .before .before .before .args in
     let s = ready r in
-    row-given (a .train) (a .g) (a .curve) (a .v0) (now (a .out)) (s .accepted) (course r) (s .course) (s .enough) _ (i .if1 .left) (c .before .before .fill .ensures)
+    row-given (a .train) (a .g) (a .curve) (a .v0) (now (a .out)) (s .accepted) (course r) (s .course) (s .enough) _ (omega (arith, i .if1 .left)) (c .before .before .fill .ensures)
 
 pub row-on-spec : {M : Type 1} → statement M
 row-on-spec =

@@ -27,16 +27,16 @@ returns c =
     ∙ sym (first-before (trainRefusals (a .train)) (speedRefusals (a .v) (a .v0) ++ gradientRefusals (a .g)) (λ z. omega (arith, c .if1 .taken, c .before .of-train .ensures)))
 
 returns-2 : tie.Need-returns-2
-returns-2 c = after (c .before .before) 3 (simp (lt-ltb _ _ (c .if2 .taken)))
+returns-2 c = after (c .before) 3 (simp (lt-ltb _ _ (c .if2 .taken)))
 
 returns-3 : tie.Need-returns-3
-returns-3 c = let d = c .before .before in after (d .before .before) 3 (simp (le-ltb _ _ (d .if2 .left), lt-ltb _ _ (c .if3 .taken)))
+returns-3 c = let d = c .before in after (d .before) 3 (simp (le-ltb _ _ (d .if2 .left), lt-ltb _ _ (c .if3 .taken)))
 
 returns-4 : tie.Need-returns-4
 returns-4 c =
-    let e = c .before .before .before in
-    let d = e .before .before in
-    after (d .before .before) 4 (simp (le-ltb _ _ (d .if2 .left), le-ltb _ _ (e .if3 .left), lt-ltb _ _ (c .if4 .taken)))
+    let e = c .before in
+    let d = e .before in
+    after (d .before) 4 (simp (le-ltb _ _ (d .if2 .left), le-ltb _ _ (e .if3 .left), lt-ltb _ _ (c .if4 .taken)))
 
 of-gradient-requires : tie.Need-of-gradient-requires
 of-gradient-requires c κs = search needs
@@ -44,9 +44,9 @@ of-gradient-requires c κs = search needs
 returns-5 : tie.Need-returns-5
 returns-5 c =
     let f = c .before in
-    let e = f .before .before .before in
-    let d = e .before .before in
-    after (d .before .before) _ (simp (le-ltb _ _ (d .if2 .left), le-ltb _ _ (e .if3 .left), le-ltb _ _ (f .if4 .left)) (sym (c .of-gradient .ensures)))
+    let e = f .before in
+    let d = e .before in
+    after (d .before) _ (simp (le-ltb _ _ (d .if2 .left), le-ltb _ _ (e .if3 .left), le-ltb _ _ (f .if4 .left)) (sym (c .of-gradient .ensures)))
 
 pub turned-away-spec : {M : Type 1} → statement M
 turned-away-spec =

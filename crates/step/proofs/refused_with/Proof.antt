@@ -1,0 +1,9 @@
+use mathlib.Core.Path.{refl}
+use Rattle.step.proofs.refused_with.Statement.{statement}
+use Rattle.step.proofs.refused_with.Tie as tie
+
+returns : tie.Need-returns
+returns c = refl
+
+pub refused-with-spec : {M : Type 1} → statement M
+refused-with-spec = tie.close (tie.spec returns)
