@@ -6,9 +6,11 @@ ghost use Rattle.ceilings.specs.Paper.{AsPrinted};
 use train::Kmh;
 
 // A speed in 120ths of a km/h.
+#[repr(C)]
 pub struct Ceiling(pub u32);
 
 // The ceilings for W, SBI and EBI, or a refusal and zeros.
+#[repr(C)]
 pub struct Limits {
     pub refusal: u32,
     pub w: Ceiling,

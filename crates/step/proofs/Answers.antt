@@ -27,7 +27,7 @@ use Rattle.curve.proofs.Exact.{distance-is, distance-least}
 use Rattle.braking.proofs.Rising.{strong-stays}
 use Rattle.step.specs.declared.Distances.{Distances}
 use Rattle.step.specs.declared.Written.{Written}
-use Rattle.step.specs.Answer.{inputs, refused, weak, stepRefusals, stepOf, Exact, upTo, speeds, rowRefusals, rowAnswer, rowAfter, RowExact}
+use Rattle.step.specs.Answer.{inputs, refused, weak, stepRefusals, stepOf, StepAnswers, upTo, speeds, rowRefusals, rowAnswer, rowAfter, RowAnswers}
 use Rattle.step.specs.Begin.{placesOf}
 use Rattle.step.proofs.Places.{same-places, place-at}
 
@@ -55,24 +55,21 @@ module _ (t : Train) (g : Gradient) (v v0 : Kmh) where
 
 -- a single distance's answer, and that it is exact where it is given
 module _ (t : Train) (g : Gradient) (v v0 : Kmh) where
-  abbrev pub Step : Distances → Type 0
-  Step d = (d ≡ stepOf first t g v v0) × (d .refusal ≡ 0 → Exact first t g v v0 d)
-
-  pub step-refused : (n : ℕ) → 0 < n → firstOf (stepRefusals first t g v v0) ≡ n → Step (refused n)
+  pub step-refused : (n : ℕ) → 0 < n → firstOf (stepRefusals first t g v v0) ≡ n → StepAnswers first t g v v0 (refused n)
   unfolding stepOf
-  step-refused n l e = (rw (e, ne-eqb n 0 (λ i. omega arith)), λ z. absurd (let k : n ≡ 0 = z in omega arith))
+  step-refused n l e = record { answer = rw (e, ne-eqb n 0 (λ i. omega arith)); least = λ z. absurd (let k : n ≡ 0 = z in omega arith) }
 
-  pub step-given : (c : Course) → firstOf (stepRefusals first t g v v0) ≡ 0 → v0 .0 ≤ v .0 → IsCourse first t g c → Enough c (v .0) (v0 .0) → Step (placesOf c v v0)
+  pub step-given : (c : Course) → firstOf (stepRefusals first t g v v0) ≡ 0 → v0 .0 ≤ v .0 → IsCourse first t g c → Enough c (v .0) (v0 .0) → StepAnswers first t g v v0 (placesOf c v v0)
   unfolding stepOf
   step-given c z ahead is enough =
       let at = distance-is first t g c is v v0 ahead enough in
       let least = distance-least first t g c is v v0 ahead enough in
-      rw (at Ebi, at Sbi, at W, at P) (rw z, λ i. record { ebi = least Ebi; sbi = least Sbi; w = least W; p = least P })
+      rw (at Ebi, at Sbi, at W, at P) (record { answer = rw z; least = λ i. record { ebi = least Ebi; sbi = least Sbi; w = least W; p = least P } })
 
 -- a row's answer, the list afterwards, and that each place is exact
 module _ (t : Train) (g : Gradient) (x : Curve) (v0 : Kmh) (lent : List ℕ) where
-  abbrev pub Row : Written → List ℕ → Type 0
-  Row w after = (w ≡ rowAnswer first t g v0 (length lent)) × (after ≡ rowAfter first t g x v0 lent) × RowExact first t g x v0 (w .length) after
+  abbrev Row : Written → List ℕ → Type 0
+  Row = RowAnswers first t g x v0 lent
 
   abbrev short : List Refusal
   short = ltb (length lent) (speeds t v0) gives 11 ∷ []
@@ -85,7 +82,7 @@ module _ (t : Train) (g : Gradient) (x : Curve) (v0 : Kmh) (lent : List ℕ) whe
 
   refused-row : (n : ℕ) → 0 < n → firstOf (rowRefusals first t g v0 (length lent)) ≡ n → Row (record { refusal = n; length = 0 }) lent
   unfolding rowAnswer rowAfter
-  refused-row n l e = let z = ne-eqb n 0 (λ i. omega arith) in (rw (e, z), rw (e, z), record { least = λ i h. absurd (let k : i < 0 = h in omega arith) })
+  refused-row n l e = let z = ne-eqb n 0 (λ i. omega arith) in record { answer = rw (e, z); memory = rw (e, z); least = λ i h. absurd (let k : i < 0 = h in omega arith) }
 
   pub row-refused : (n : ℕ) → 0 < n → firstOf before ≡ n → Row (record { refusal = n; length = 0 }) lent
   row-refused n l e = refused-row n l (first-before before short (λ i. omega arith) ∙ e)
@@ -116,8 +113,9 @@ module _ (t : Train) (g : Gradient) (x : Curve) (v0 : Kmh) (lent : List ℕ) whe
       unfolding rowAnswer rowAfter
       row-given after l e =
           let r : firstOf (rowRefusals first t g v0 (length lent)) ≡ 0 = first-after before short before-numbered z ∙ rw (le-ltb (length lent) n l) in
-          let p : after ≡ upTo exactly n ++ drop n lent = e ∙ ap (λ q. q ++ drop n lent) (same-places _ exactly n (λ i h. row-is i)) in (
-            rw r,
-            rw r p,
-            record { least = λ i h. rw (p, place-at exactly n i (drop n lent) h) (distance-least first t g c is (kmh (v0 .0 + i)) v0 (le-add-right (v0 .0) i) (enough-on i) x) },
-          )
+          let p : after ≡ upTo exactly n ++ drop n lent = e ∙ ap (λ q. q ++ drop n lent) (same-places _ exactly n (λ i h. row-is i)) in
+          record {
+            answer = rw r;
+            memory = rw r p;
+            least = λ i h. rw (p, place-at exactly n i (drop n lent) h) (distance-least first t g c is (kmh (v0 .0 + i)) v0 (le-add-right (v0 .0) i) (enough-on i) x);
+          }

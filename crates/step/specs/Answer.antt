@@ -1,4 +1,5 @@
 -- Document 01, "Step distances" and "What is turned away": what a single distance and a row answer.
+use mathlib.Core.Path.{_≡_}
 use mathlib.Core.Bool.{not, cond}
 use mathlib.Core.List.{List, [], _∷_, _++_}
 use Prim.Native.Nat.{ℕ, zero, suc, _+_, _-_, _<_}
@@ -67,6 +68,11 @@ module _ (k : Coefficients) (t : Train) (g : Gradient) where
     pub w : Least (whole 1000 *q formula k t g v v0 W) (d .w .0)
     pub p : Least (whole 1000 *q formula k t g v v0 P) (d .p .0)
 
+  -- what a single distance promises
+  pub record StepAnswers (v v0 : Kmh) (d : Distances) : Type 0 where
+    pub answer : d ≡ stepOf v v0
+    pub least : d .refusal ≡ 0 → Exact v v0 d
+
   -- a row in `room` places; refusal 10 is decided at V0
   abbrev pub rowRefusals : Kmh → ℕ → List Refusal
   rowRefusals v0 room = (inputs t g (t .top) v0 ++ weak v0 v0) ++ (ltb room (speeds t v0) gives 11 ∷ [])
@@ -83,6 +89,8 @@ module _ (k : Coefficients) (t : Train) (g : Gradient) where
   unfoldable pub rowAfter : Curve → Kmh → List ℕ → List ℕ
   rowAfter c v0 lent = cond (eqb (firstOf (rowRefusals v0 (length lent))) 0) (rowOf c v0 ++ drop (speeds t v0) lent) lent
 
-  -- the second demand, of each of the n places written
-  pub record RowExact (c : Curve) (v0 : Kmh) (n : ℕ) (after : List ℕ) : Type 0 where
-    pub least : (i : ℕ) → i < n → Least (whole 1000 *q formula k t g (kmh (v0 .0 + i)) v0 c) (getD after i 0)
+  -- what a row promises: its answer, the lent list afterwards, and the second demand for each place written
+  pub record RowAnswers (c : Curve) (v0 : Kmh) (lent : List ℕ) (w : Written) (after : List ℕ) : Type 0 where
+    pub answer : w ≡ rowAnswer v0 (length lent)
+    pub memory : after ≡ rowAfter c v0 lent
+    pub least : (i : ℕ) → i < w .length → Least (whole 1000 *q formula k t g (kmh (v0 .0 + i)) v0 c) (getD after i 0)

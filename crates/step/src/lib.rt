@@ -8,7 +8,7 @@ ghost use Rattle.train.specs.Gradient.{gradientOf};
 ghost use Rattle.train.specs.Refusal.{firstOf};
 ghost use Rattle.braking.specs.Plan.{Small, Near, Enough};
 ghost use Rattle.curve.specs.Plan.{placeOf};
-ghost use Rattle.step.specs.Answer.{inputs, refused, stepOf, Exact, upTo, rowAnswer, rowAfter, RowExact};
+ghost use Rattle.step.specs.Answer.{inputs, refused, upTo, StepAnswers, RowAnswers};
 ghost use Rattle.step.specs.Begin.{Starts, placesOf};
 use braking::Course;
 use curve::Curve;
@@ -18,6 +18,7 @@ use train::Millimetre;
 use train::Train;
 
 // The four distances, or a refusal and zeros.
+#[repr(C)]
 pub struct Distances {
     pub refusal: u32,
     pub ebi: Millimetre,
@@ -27,6 +28,7 @@ pub struct Distances {
 }
 
 // How many places were written, or a refusal and 0.
+#[repr(C)]
 pub struct Written {
     pub refusal: u32,
     pub length: u32,
@@ -106,7 +108,7 @@ fn distances_at(c: Course, v: Kmh, v0: Kmh) -> Distances
 
 // The four distances, on a gradient as rise and fall.
 pub fn step_on(train: Train, v: Kmh, v0: Kmh, g: Gradient) -> Distances
-    ensures { λ r. ⌜ (r ≡ stepOf first train g v v0) × (r .refusal ≡ 0 → Exact first train g v v0 r) ⌝ }
+    ensures { λ r. ⌜ StepAnswers first train g v v0 r ⌝ }
 {
     let begun = start(train, v, v0, v, g);
     match begun {
@@ -117,7 +119,7 @@ pub fn step_on(train: Train, v: Kmh, v0: Kmh, g: Gradient) -> Distances
 
 // The four distances from v to the target v0.
 pub fn step(train: Train, v: Kmh, v0: Kmh, gradient: i32) -> Distances
-    ensures { λ r. ⌜ (r ≡ stepOf first train (gradientOf gradient) v v0) × (r .refusal ≡ 0 → Exact first train (gradientOf gradient) v v0 r) ⌝ }
+    ensures { λ r. ⌜ StepAnswers first train (gradientOf gradient) v v0 r ⌝ }
 {
     step_on(train, v, v0, train::slope::gradient_of(gradient))
 }
@@ -139,9 +141,7 @@ fn fill(curve: Curve, c: Course, v0: Kmh, n: usize, out: &mut [u32])
 
 // A row, on a gradient as rise and fall.
 pub fn row_on(curve: Curve, train: Train, v0: Kmh, g: Gradient, out: &mut [u32]) -> Written
-    ensures { λ r. ⌜ (r ≡ rowAnswer first train g v0 (length (now (out .entry))))
-        × (now (out .exit) ≡ rowAfter first train g curve v0 (now (out .entry)))
-        × RowExact first train g curve v0 (r .length) (now (out .exit)) ⌝ }
+    ensures { λ r. ⌜ RowAnswers first train g curve v0 (now (out .entry)) r (now (out .exit)) ⌝ }
 {
     let top = train.top;
     let begun = start(train, top, v0, v0, g);
@@ -170,9 +170,7 @@ pub fn row_on(curve: Curve, train: Train, v0: Kmh, g: Gradient, out: &mut [u32])
 
 // A row of one curve: its distances from every speed of v0 to the top speed, v0 first.
 pub fn row(curve: Curve, train: Train, v0: Kmh, gradient: i32, out: &mut [u32]) -> Written
-    ensures { λ r. ⌜ (r ≡ rowAnswer first train (gradientOf gradient) v0 (length (now (out .entry))))
-        × (now (out .exit) ≡ rowAfter first train (gradientOf gradient) curve v0 (now (out .entry)))
-        × RowExact first train (gradientOf gradient) curve v0 (r .length) (now (out .exit)) ⌝ }
+    ensures { λ r. ⌜ RowAnswers first train (gradientOf gradient) curve v0 (now (out .entry)) r (now (out .exit)) ⌝ }
 {
     row_on(curve, train, v0, train::slope::gradient_of(gradient), out)
 }

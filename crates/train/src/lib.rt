@@ -13,6 +13,7 @@ pub struct Kmh(pub u32);
 pub struct Metre(pub u32);
 
 // A distance in millimetres.
+#[repr(C)]
 pub struct Millimetre(pub u32);
 
 pub enum BrakeType {

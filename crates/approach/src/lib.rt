@@ -1,0 +1,104 @@
+// What designers link: each operation of document 01 that has landed, as a C function. Each repeats the contract of the call below it.
+ghost use mathlib.Core.Path.{_≡_};
+ghost use Rattle.train.specs.Units.{kmh};
+ghost use Rattle.train.specs.Coefficients.{first};
+ghost use Rattle.train.specs.Gradient.{gradientOf};
+ghost use Rattle.curve.specs.declared.Curve.the-variants.{Ebi, Sbi, W, P};
+ghost use Rattle.step.specs.Answer.{StepAnswers, RowAnswers};
+ghost use Rattle.ceilings.specs.Ceilings.{limitsOf};
+ghost use Rattle.ceilings.specs.Paper.{AsPrinted};
+ghost use Rattle.approach.specs.Entered.{trainOf};
+use ceilings::Limits;
+use curve::Curve;
+use step::Distances;
+use step::Written;
+use train::BrakeType;
+use train::Kmh;
+use train::Metre;
+use train::Train;
+
+// A train as C has it: the braked weight percentage, the length in metres, the top speed in km/h.
+#[repr(C)]
+pub struct Entered {
+    pub freight: bool,
+    pub electropneumatic: bool,
+    pub weight: u32,
+    pub length: u32,
+    pub top: u32,
+}
+
+fn train_of(t: Entered) -> Train
+    ensures { λ r. ⌜ r ≡ trainOf t ⌝ }
+{
+    let brake = if t.freight {
+        BrakeType::Freight
+    } else {
+        BrakeType::Passenger
+    };
+    Train {
+        brake: brake,
+        electropneumatic: t.electropneumatic,
+        weight: t.weight,
+        length: Metre(t.length),
+        top: Kmh(t.top),
+    }
+}
+
+#[no_mangle]
+pub extern "C" fn approach_step(train: Entered, v: u32, v0: u32, gradient: i32) -> Distances
+    ensures { λ r. ⌜ StepAnswers first (trainOf train) (gradientOf gradient) (kmh v) (kmh v0) r ⌝ }
+{
+    step::step(train_of(train), Kmh(v), Kmh(v0), gradient)
+}
+
+// An enum cannot cross the border, so there is a row for each curve.
+fn row_of(curve: Curve, train: Entered, v0: u32, gradient: i32, row: &mut [u32]) -> Written
+    ensures { λ r. ⌜ RowAnswers first (trainOf train) (gradientOf gradient) curve (kmh v0) (now (row .entry)) r (now (row .exit)) ⌝ }
+{
+    step::row(curve, train_of(train), Kmh(v0), gradient, row)
+}
+
+#[no_mangle]
+pub extern "C" fn approach_row_ebi(
+    train: Entered,
+    v0: u32,
+    gradient: i32,
+    row: &mut [u32],
+) -> Written
+    ensures { λ r. ⌜ RowAnswers first (trainOf train) (gradientOf gradient) Ebi (kmh v0) (now (row .entry)) r (now (row .exit)) ⌝ }
+{
+    row_of(Curve::Ebi, train, v0, gradient, row)
+}
+
+#[no_mangle]
+pub extern "C" fn approach_row_sbi(
+    train: Entered,
+    v0: u32,
+    gradient: i32,
+    row: &mut [u32],
+) -> Written
+    ensures { λ r. ⌜ RowAnswers first (trainOf train) (gradientOf gradient) Sbi (kmh v0) (now (row .entry)) r (now (row .exit)) ⌝ }
+{
+    row_of(Curve::Sbi, train, v0, gradient, row)
+}
+
+#[no_mangle]
+pub extern "C" fn approach_row_w(train: Entered, v0: u32, gradient: i32, row: &mut [u32]) -> Written
+    ensures { λ r. ⌜ RowAnswers first (trainOf train) (gradientOf gradient) W (kmh v0) (now (row .entry)) r (now (row .exit)) ⌝ }
+{
+    row_of(Curve::W, train, v0, gradient, row)
+}
+
+#[no_mangle]
+pub extern "C" fn approach_row_p(train: Entered, v0: u32, gradient: i32, row: &mut [u32]) -> Written
+    ensures { λ r. ⌜ RowAnswers first (trainOf train) (gradientOf gradient) P (kmh v0) (now (row .entry)) r (now (row .exit)) ⌝ }
+{
+    row_of(Curve::P, train, v0, gradient, row)
+}
+
+#[no_mangle]
+pub extern "C" fn approach_ceilings(permitted: u32) -> Limits
+    ensures { λ r. ⌜ (r ≡ limitsOf (kmh permitted)) × (r .refusal ≡ 0 → AsPrinted (kmh permitted) r) ⌝ }
+{
+    ceilings::ceilings(Kmh(permitted))
+}
