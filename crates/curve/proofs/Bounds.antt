@@ -24,10 +24,6 @@ pub part-fits : (b b0 s : ℕ) → b ≤ betaMost → b0 ≤ speedMost → s ≤
 unfolding limit
 part-fits b b0 s h k i = lt-of-le-of-lt (mul-le-mul {n₂ = betaMost * (betaMost + speedMost)} {m₂ = 16500000} (square-small b b0 h k) (omega arith)) (lit< tt)
 
-pub over-fits : (a : ℕ) → a ≤ aMost → a * 810000000000 * 10000000000 < limit
-unfolding limit
-over-fits a h = lt-of-le-of-lt (mul-le-mul {n₂ = aMost * 810000000000} {m₂ = 10000000000} (mul-le-mul {n₂ = aMost} {m₂ = 810000000000} h (lit≤ tt)) (lit≤ tt)) (lit< tt)
-
 curve-small : (k : Curve) → (serviceOf k ≤ 1) × (warningOf k ≤ 2)
 curve-small Ebi = omega arith
 curve-small Sbi = omega arith

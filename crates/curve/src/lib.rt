@@ -42,17 +42,20 @@ pub fn motion_at(c: Course, v: Kmh, v0: Kmh) -> Motion
 {
     let fast = v.0 as u64;
     let slow = v0.0 as u64;
+    let speed = fast * 2500000000000000;
     let target = slow * 2500000000000000;
     let s = strength::at(c, fast, slow);
     let a = s.gain - s.loss;
     let b = strength::beta(c, fast, slow);
     let square = wide::product(b - target, b + target);
-    let part = wide::times(square, 50000 * s.unit);
-    let scale = wide::times(wide::product(a, 810000000000), 10000000000);
+    // as a u32: the product then leaves out the upper half
+    let unit = (50000 * s.unit) as u32;
+    let part = wide::times(square, unit as u64);
+    let scale = wide::product(810 * a, 10000000000000000000);
     Motion {
         a: a,
         beta: b,
-        speed: fast * 2500000000000000,
+        speed: speed,
         part: part,
         scale: scale,
     }

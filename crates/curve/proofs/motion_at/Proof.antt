@@ -7,7 +7,7 @@ use Rattle.wide.specs.Value.{valueOf}
 use Rattle.braking.specs.Plan.{v9, aMost, betaMost, speedMost}
 use Rattle.curve.specs.Plan.{squareOf}
 use Rattle.braking.proofs.Bounds.{s-small, gain-small, beta-small, speed-small}
-use Rattle.curve.proofs.Bounds.{part-fits, over-fits}
+use Rattle.curve.proofs.Bounds.{part-fits}
 use Rattle.curve.proofs.motion_at.Statement.{statement}
 use Rattle.curve.proofs.motion_at.Tie as tie
 
@@ -43,8 +43,11 @@ cast-fast c = search needs
 cast-slow : tie.Need-cast-slow
 cast-slow c = search needs
 
+mul-speed : tie.Need-mul-speed
+mul-speed c = record { fits = speed-fits _ (c .before .before .pre .1 .high) }
+
 mul-target : tie.Need-mul-target
-mul-target c = let n = c .before .before .pre .1 in omega (arith, n .high, n .ahead)
+mul-target c = let n = c .before .before .pre .1 in record { fits = speed-fits _ (le-trans (n .ahead) (n .high)) }
 
 at-requires : tie.Need-at-requires
 at-requires c κs = let p = c .before .before .pre in (p .0, p .1)
@@ -66,22 +69,25 @@ add-product c = omega (arith, bounds c)
 product-requires : tie.Need-product-requires
 product-requires c κs = search needs
 
-mul-times : tie.Need-mul-times
-mul-times c = omega (arith, unit-small (c .before .before .before .before))
+mul-unit : tie.Need-mul-unit
+mul-unit c = omega (arith, unit-small (c .before .before .before .before))
+
+cast-unit : tie.Need-cast-unit
+cast-unit c = omega (arith, unit-small (c .before .before .before .before))
+
+cast-times : tie.Need-cast-times
+cast-times c = omega (arith, unit-small (c .before .before .before .before))
 
 times-requires : tie.Need-times-requires
 times-requires c κs =
     let k = bounds (c .before .before) in
     rw (square-is (c .before)) (part-fits _ _ _ (k .1 .0) (k .1 .1) (unit-small (c .before .before .before .before)))
 
+mul-product : tie.Need-mul-product
+mul-product c = omega (arith, gain-most (c .before .before .before .before .before))
+
 product-requires-2 : tie.Need-product-requires-2
 product-requires-2 c κs = search needs
-
-times-requires-2 : tie.Need-times-requires-2
-times-requires-2 c κs = rw (c .product2 .ensures) (over-fits _ (omega (arith, gain-most (c .before .before .before .before .before .before))))
-
-mul-t14 : tie.Need-mul-t14
-mul-t14 c = record { fits = speed-fits _ (c .before .before .before .before .before .before .before .before .before .before .pre .1 .high) }
 
 speed-is : (v : ℕ) → v * 2500000000000000 ≡ v9 v
 unfolding v9
@@ -89,7 +95,7 @@ speed-is v = refl
 
 returns : tie.Need-returns
 returns c =
-    let t = c .before .before in
+    let t = c .before in
     let b = t .before .before .before in
     let a = b .before .before in
     let v = a .before .before .before .args .v .0 in
@@ -100,7 +106,7 @@ returns c =
       beta = b .beta .ensures;
       speed = speed-is v;
       part = t .times .ensures ∙ rw (square-is (t .before .before), e .0, b .beta .ensures) (mul-comm _ _);
-      scale = c .times2 .ensures ∙ rw (c .before .product2 .ensures) (omega arith);
+      scale = c .product2 .ensures ∙ omega arith;
     }
 
 pub motion-at-spec : {M : Type 1} → statement M
@@ -109,6 +115,7 @@ motion-at-spec =
     (tie.spec
     cast-fast
     cast-slow
+    mul-speed
     mul-target
     at-requires
     sub-a
@@ -116,9 +123,10 @@ motion-at-spec =
     sub-product
     add-product
     product-requires
-    mul-times
+    mul-unit
+    cast-unit
+    cast-times
     times-requires
+    mul-product
     product-requires-2
-    times-requires-2
-    mul-t14
     returns)
