@@ -1,7 +1,10 @@
-//! The proved wide numbers, called through their archive, beside the same plan in Rust with u128 limbs.
+//! The proved calls, through their archives, beside the same whole-number plan in Rust with u128 limbs.
 pub mod inputs;
+pub mod library;
 pub mod peer;
 pub mod proved;
+pub mod step;
+pub mod timing;
 
 /// A number below 2^192: three digits of 64 bits, the least first.
 #[repr(C)]

@@ -27,10 +27,15 @@ pub extern "C" fn times(w: Wide, m: u64) -> Wide {
     times_inline(w, m)
 }
 
-#[inline(never)]
-pub extern "C" fn sum(a: Wide, b: Wide) -> Wide {
+#[inline(always)]
+pub fn sum_inline(a: Wide, b: Wide) -> Wide {
     let (c, over) = lower_two(a).overflowing_add(lower_two(b));
     Wide { low: c as u64, mid: (c >> 64) as u64, high: a.high + b.high + over as u64 }
+}
+
+#[inline(never)]
+pub extern "C" fn sum(a: Wide, b: Wide) -> Wide {
+    sum_inline(a, b)
 }
 
 #[inline(always)]
@@ -66,13 +71,18 @@ fn lower(n: Wide, d: Wide) -> u64 {
     }
 }
 
-#[inline(never)]
-pub extern "C" fn quotient_up(n: Wide, d: Wide) -> u32 {
+#[inline(always)]
+pub fn quotient_up_inline(n: Wide, d: Wide) -> u32 {
     let mut q = lower(n, d) as u32;
     let mut left = difference(n, times_inline(d, q as u64));
     while !at_most(left, d) {
         left = difference(left, d);
         q += 1;
     }
-    q + (left != from_word(0)) as u32
+    q + (left != Wide { low: 0, mid: 0, high: 0 }) as u32
+}
+
+#[inline(never)]
+pub extern "C" fn quotient_up(n: Wide, d: Wide) -> u32 {
+    quotient_up_inline(n, d)
 }

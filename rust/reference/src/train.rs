@@ -1,0 +1,102 @@
+//! The train and the slope: delay, slope deceleration and nominal deceleration (document 002, sections 6 and 7).
+
+use crate::fraction::{Fraction, Printed};
+
+/// Section 6: the highest speed of the service regime, V_RE, in km/h.
+pub const TOP_SPAN: u32 = 330;
+/// Section 6: the longest train in metres.
+pub const LONGEST: u32 = 1000;
+/// Section 6: the least, the greatest and the step of the braked weight percentage λ.
+pub const BRAKED_WEIGHTS: (u32, u32, u32) = (45, 160, 5);
+
+/// Section 7.1: the safety coefficient of the delay.
+const D_T: Printed = (130, 100);
+
+/// Section 7.1.1: a, b and c of the passenger row (V) and the freight row (M).
+const A_V: Printed = (350, 100);
+const B_V: Printed = (0, 100);
+const C_V: Printed = (15, 100);
+const A_M: Printed = (1350, 100);
+const B_M: Printed = (0, 100);
+const C_M: Printed = (4, 100);
+
+/// Section 7.2: gravity in m/s², the inertia coefficients and the two slopes, in per mille, that part them.
+const G: Printed = (981, 100);
+const K_I1: Printed = (90, 100);
+const K_I2: Printed = (100, 100);
+const K_I3: Printed = (11, 10);
+const I_1: i32 = 0;
+const I_2: i32 = -21;
+
+/// Section 7.3.4: the nominal deceleration's factor of λ and its constant. C is 0, so speed does not change it.
+const A: Printed = (685, 100_000);
+const B: Printed = (94, 1000);
+
+/// Braked weight in per cent, length in metres, top speed in km/h.
+#[derive(Clone, Copy, Debug, PartialEq, Eq)]
+pub struct Train {
+    pub freight: bool,
+    pub electropneumatic: bool,
+    pub braked_weight: u32,
+    pub length: u32,
+    pub top_speed: u32,
+}
+
+/// a + b × hundreds + c × hundreds², in seconds, with the length in hundreds of metres.
+fn delay(a: Printed, b: Printed, c: Printed, length: u32) -> Fraction {
+    let hundreds = Fraction::from((i64::from(length), 100));
+    let linear = Fraction::from(b) * &hundreds;
+    let square = Fraction::from(c) * (&hundreds * &hundreds);
+    Fraction::from(a) + linear + square
+}
+
+impl Train {
+    /// Document 01's refusals 1, 2 and 3 of the train itself, the lowest first.
+    pub fn check(self) -> Result<(), u32> {
+        let (least, greatest, step) = BRAKED_WEIGHTS;
+        if !(least..=greatest).contains(&self.braked_weight) || !(self.braked_weight - least).is_multiple_of(step) {
+            return Err(1);
+        }
+        if self.length > LONGEST {
+            return Err(2);
+        }
+        if !(1..=TOP_SPAN).contains(&self.top_speed) {
+            return Err(3);
+        }
+        Ok(())
+    }
+
+    /// Section 7.1.1, t_fV: the electropneumatic brake takes the length out of this row.
+    pub fn passenger_delay(self) -> Fraction {
+        delay(A_V, B_V, C_V, if self.electropneumatic { 0 } else { self.length })
+    }
+
+    /// Section 7.1.1, t_fM: the electropneumatic brake does not touch this row.
+    pub fn freight_delay(self) -> Fraction {
+        delay(A_M, B_M, C_M, self.length)
+    }
+
+    /// Section 7.1: the time in seconds for which no brake force is assumed.
+    pub fn tf(self) -> Fraction {
+        let passenger = self.passenger_delay();
+        let slower = if self.freight { passenger.max(self.freight_delay()) } else { passenger };
+        Fraction::from(D_T) * slower
+    }
+
+    /// Section 7.3.4: the nominal deceleration in m/s².
+    pub fn dr(self) -> Fraction {
+        Fraction::from(A) * Fraction::from(self.braked_weight) + Fraction::from(B)
+    }
+}
+
+/// Section 7.2: the deceleration in m/s² of a slope in per mille, positive uphill.
+pub fn di(gradient: i32) -> Fraction {
+    let inertia = if gradient > I_1 {
+        K_I1
+    } else if gradient > I_2 {
+        K_I2
+    } else {
+        K_I3
+    };
+    Fraction::from(inertia) * Fraction::from(G) * Fraction::from((i64::from(gradient), 1000))
+}
