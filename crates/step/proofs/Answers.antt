@@ -14,7 +14,7 @@ use Rattle.train.specs.Units.{kmh}
 use Rattle.train.specs.Coefficients.{first}
 use Rattle.train.specs.Gradient.{Moderate}
 use Rattle.train.specs.Refusal.{Refusal, _gives_, firstOf}
-use Rattle.train.proofs.Refusals.{Numbered, first-after, first-before, none-holds}
+use Rattle.train.proofs.Refusals.{Numbered, Rising, first-after, first-before, none-holds}
 use Rattle.curve.specs.declared.Curve.{Curve}
 use Rattle.curve.specs.declared.Curve.the-variants.{Ebi, Sbi, W, P}
 use Rattle.braking.specs.declared.Course.{Course}
@@ -52,6 +52,13 @@ module _ (t : Train) (g : Gradient) (v v0 : Kmh) where
         gradient = record { rise = ltb-false _ _ (m .1 .1 .1 .0); fall = ltb-false _ _ (m .1 .1 .1 .1 .0) };
         speeds = record { high = ltb-false _ _ (m .0); ahead = ltb-false _ _ (m .1 .1 .0) };
       }
+
+-- so the lowest number that applies is the answer (`lowest` and `applies` of the train)
+pub step-rising : (t : Train) (g : Gradient) (v v0 : Kmh) → Rising 1 (stepRefusals first t g v v0)
+step-rising t g v v0 = (tt, (tt, (tt, (tt, (tt, (tt, (tt, (tt, (tt, (tt, (tt, (tt, tt))))))))))))
+
+pub row-rising : (t : Train) (g : Gradient) (v0 : Kmh) (room : ℕ) → Rising 1 (rowRefusals first t g v0 room)
+row-rising t g v0 room = (tt, (tt, (tt, (tt, (tt, (tt, (tt, (tt, (tt, (tt, (tt, (tt, (tt, tt)))))))))))))
 
 -- a single distance's answer, and that it is exact where it is given
 module _ (t : Train) (g : Gradient) (v v0 : Kmh) where

@@ -54,7 +54,7 @@ impl Numbers {
 
 #[test]
 fn figure_ep_90_to_0() {
-    // EBI = 5.55 × 25 + 625 / (2 × 0.57 × 0.779) = 842.5313...; then 5.55 × 25 and twice 1.5 × 25 on top.
+    // EBI = 5.55 × 25 + 625 / (2 × 0.57 × 0.779) = 842.5312...; then 5.55 × 25 and twice 1.5 × 25 on top.
     assert_eq!(step(EP, 90, 0, 0), Ok([842_532, 981_282, 1_018_782, 1_056_282]));
     // The working brake takes the length out of the passenger row.
     assert_eq!(step(Train { length: 1000, ..EP }, 90, 0, 0), step(EP, 90, 0, 0));
@@ -137,11 +137,11 @@ fn slopes_and_brakes() {
 
 #[test]
 fn target_above_zero() {
-    // K0 = 0.975, so EBI = 138.75 + (625 - 156.25) / (2 × 0.57 × 0.975 × 0.779) = 680.1201...
+    // K0 = 0.975, so EBI = 138.75 + (625 - 156.25) / (2 × 0.57 × 0.975 × 0.779) = 680.1202...
     assert_eq!(step(EP, 90, 45, 0), Ok([680_121, 818_871, 856_371, 893_871]));
 }
 
-/// With n_C and C at 0 nothing changes above 150 km/h: EBI = 5.55 × 50 + 2500 / (2 × 0.57 × 0.779) = 3092.6252...
+/// With n_C and C at 0 nothing changes above 150 km/h: EBI = 5.55 × 50 + 2500 / (2 × 0.57 × 0.779) = 3092.6251...
 #[test]
 fn high_speed() {
     assert_eq!(step(EP, 180, 0, 0), Ok([3_092_626, 3_370_126, 3_445_126, 3_520_126]));
