@@ -3,7 +3,7 @@ use mathlib.Core.Path.{refl}
 use mathlib.Core.List.{[], _∷_}
 use Prim.Native.Nat.{ℕ, _+_, _*_, _^_, _≤_, _<_}
 use native.Mathlib.Omega.{arith}
-use native.Mathlib.Nat.{mul-le-mul, mul-le-mul-left, add-le-add, le-trans, lt-of-le-of-lt, le-of-mul-le-mul-right}
+use native.Mathlib.Nat.{mul-le-mul, mul-le-mul-left, add-le-add, le-trans, lt-of-le-of-lt, le-of-lt, le-of-mul-le-mul-right}
 use lib.Dec.{lit<, lit≤}
 use Rattle.exact.proofs.Polynomial.{num, _⊕_, _⊗_}
 use Rattle.exact.proofs.Certificate.{x0, x1, x2, done, times, cert}
@@ -85,7 +85,7 @@ moving c v v0 m sm n h i =
           (num 50000 ⊗ x0 ⊗ x1 ⊗ num (10 ^ 6)) (x2 ⊗ num (betaMost * (betaMost + speedMost))) refl);
     }
 
--- d metres over the same number fit
-pub room-fits : (a d : ℕ) → a ≤ aMost → d < 2 ^ 32 → 81 * 10 ^ 20 * a * (1000 * d) < limit
+-- n millimetres over the same number fit
+pub room-fits : (a n : ℕ) → a ≤ aMost → n < 2 ^ 44 → 81 * 10 ^ 20 * a * n < limit
 unfolding limit
-room-fits a d h k = lt-of-le-of-lt (mul-le-mul {n₂ = 81 * 10 ^ 20 * aMost} {m₂ = 1000 * 2 ^ 32} (mul-le-mul-left (81 * 10 ^ 20) h) (omega arith)) (lit< tt)
+room-fits a n h k = lt-of-le-of-lt (mul-le-mul {n₂ = 81 * 10 ^ 20 * aMost} {m₂ = 2 ^ 44} (mul-le-mul-left (81 * 10 ^ 20) h) (le-of-lt k)) (lit< tt)

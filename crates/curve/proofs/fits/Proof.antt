@@ -15,7 +15,7 @@ mul-times : tie.Need-mul-times
 mul-times c = search needs
 
 times-requires : tie.Need-times-requires
-times-requires c κs = let s = c .before .before .before in rw (s .pre .1 .scale) (room-fits (s .args .m .a) (s .args .d .0) (s .pre .1 .a) (omega arith))
+times-requires c κs = let s = c .before .before .before in rw (s .pre .1 .scale) (room-fits (s .args .m .a) _ (s .pre .1 .a) (omega arith))
 
 at-most-requires : tie.Need-at-most-requires
 at-most-requires c κs = search needs
