@@ -21,25 +21,25 @@ module _ (c : Course) (v v0 : ℕ) (sm : Small c) (n : Near v v0) where
   pub brake-small : c .power * (100 * sOf v - c .cr * v0) ≤ 589050000000
   brake-small = mul-le-mul {n₂ = 17850000} {m₂ = 33000} (sm .power) (let i = s-small v (n .high) in omega arith)
 
-  pub fast-small : (x : ℕ) → x ≤ 10 → x * (v - c .vc) ≤ 3300
+  pub fast-small : (x : ℕ) → x ≤ 10 → x * (v - c .vc .0) ≤ 3300
   fast-small x h = mul-le-mul {n₂ = 10} {m₂ = 330} h (let i = n .high in omega arith)
 
   pub slope-small : (x : ℕ) → x ≤ 4120200 → x * (100000 * sOf v) ≤ 135966600000000
   slope-small x h = mul-le-mul {n₂ = 4120200} {m₂ = 33000000} h (let i = s-small v (n .high) in omega arith)
 
-  pub gain-small : (gainOf c v v0 ≤ aMost) × (brakeOf c v v0 * (1000 + c .plus * (v - c .vc)) ≤ 2532915000000000)
+  pub gain-small : (gainOf c v v0 ≤ aMost) × (brakeOf c v v0 * (1000 + c .plus * (v - c .vc .0)) ≤ 2532915000000000)
   unfolding gainOf brakeOf
   gain-small =
       let i = slope-small (c .up7) (sm .up7) in
       let f = fast-small (c .plus) (sm .plus) in
-      let j : brakeOf c v v0 * (1000 + c .plus * (v - c .vc)) ≤ 2532915000000000 = mul-le-mul {n₂ = 589050000000} {m₂ = 4300} brake-small (omega arith) in
+      let j : brakeOf c v v0 * (1000 + c .plus * (v - c .vc .0)) ≤ 2532915000000000 = mul-le-mul {n₂ = 589050000000} {m₂ = 4300} brake-small (omega arith) in
       (omega arith, j)
 
-  pub loss-small : (lossOf c v v0 ≤ aMost) × (brakeOf c v v0 * (c .minus * (v - c .vc)) ≤ 2532915000000000)
+  pub loss-small : (lossOf c v v0 ≤ aMost) × (brakeOf c v v0 * (c .minus * (v - c .vc .0)) ≤ 2532915000000000)
   unfolding lossOf brakeOf
   loss-small =
       let i = slope-small (c .dn7) (sm .dn7) in
-      let j : brakeOf c v v0 * (c .minus * (v - c .vc)) ≤ 1943865000000000 = mul-le-mul {n₂ = 589050000000} {m₂ = 3300} brake-small (fast-small (c .minus) (sm .minus)) in
+      let j : brakeOf c v v0 * (c .minus * (v - c .vc .0)) ≤ 1943865000000000 = mul-le-mul {n₂ = 589050000000} {m₂ = 3300} brake-small (fast-small (c .minus) (sm .minus)) in
       (omega arith, omega arith)
 
   pub beta-small : (v9 v0 ≤ betaOf c v v0) × (betaOf c v v0 ≤ betaMost)

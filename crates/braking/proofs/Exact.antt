@@ -80,7 +80,7 @@ module _ (k : Coefficients) (t : Train) (g : Gradient) (c : Course) (is : IsCour
   pub A-is : dp k t g v v0 +q di k g ≈q signed gain loss (10 ^ 12 * s)
   unfolding dp gainOf lossOf brakeOf
   A-is =
-      becomes (c .power ∷ (100 * s - c .cr * v0 .0) ∷ (1000 + c .plus * (v .0 - c .vc)) ∷ (c .minus * (v .0 - c .vc)) ∷ c .up7 ∷ c .dn7 ∷ s ∷ []) done
+      becomes (c .power ∷ (100 * s - c .cr * v0 .0) ∷ (1000 + c .plus * (v .0 - c .vc .0)) ∷ (c .minus * (v .0 - c .vc .0)) ∷ c .up7 ∷ c .dn7 ∷ s ∷ []) done
       (shape x1 (num 0) (num 100 ⊗ x6) *e shape x2 x3 (num 1000) *e overE x0 (10 ^ 7) +e shape x4 x5 (num (10 ^ 7)))
       (shape (x0 ⊗ x1 ⊗ x2 ⊕ x4 ⊗ (num 100000 ⊗ x6)) (x0 ⊗ x1 ⊗ x3 ⊕ x5 ⊗ (num 100000 ⊗ x6)) (num (10 ^ 12) ⊗ x6))
       (+q-cong (*q-cong (rw (is .cr, is .plus, is .minus, is .vc) (*q-cong (K0-is k v v0 ahead part) (KC-is k v))) (is .power)) (is .di)) (omega (arith, s-pos (v .0))) refl

@@ -19,5 +19,5 @@ pub record IsCourse (k : Coefficients) (t : Train) (g : Gradient) (c : Course) :
   pub cr : c .cr ≡ k .cr
   pub plus : c .plus ≡ k .nc .plus
   pub minus : c .minus ≡ k .nc .minus
-  pub vc : c .vc ≡ k .vc .0
+  pub vc : c .vc ≡ k .vc
   pub small : Small c

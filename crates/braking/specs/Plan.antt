@@ -21,10 +21,10 @@ module _ (c : Course) where
 
   -- the deceleration in m/s² / (10¹² s) is gain - loss
   unfoldable pub gainOf : ℕ → ℕ → ℕ
-  gainOf v v0 = brakeOf v v0 * (1000 + c .plus * (v - c .vc)) + c .up7 * (100000 * sOf v)
+  gainOf v v0 = brakeOf v v0 * (1000 + c .plus * (v - c .vc .0)) + c .up7 * (100000 * sOf v)
 
   unfoldable pub lossOf : ℕ → ℕ → ℕ
-  lossOf v v0 = brakeOf v v0 * (c .minus * (v - c .vc)) + c .dn7 * (100000 * sOf v)
+  lossOf v v0 = brakeOf v v0 * (c .minus * (v - c .vc .0)) + c .dn7 * (100000 * sOf v)
 
   -- 0.05 m/s² or more
   abbrev pub Enough : ℕ → ℕ → Type 0

@@ -5,11 +5,13 @@ ghost use Rattle.train.specs.Gradient.{Moderate};
 ghost use Rattle.braking.specs.Agreement.{IsCourse};
 use train::Coefficients;
 use train::Gradient;
+use train::Kmh;
 use train::Train;
 
 pub mod strength;
 
-// T and tR + tf in 10⁻⁸ s; an uphill and a downhill slope's deceleration and Kr · dr in 10⁻⁷ m/s²; cr in hundredths, nC in thousandths, VC in km/h.
+// T and tR + tf in 10⁻⁸ s; an uphill and a downhill slope's deceleration, and Kr · dr, in 10⁻⁷ m/s²;
+// cr in hundredths, nC (plus - minus) in thousandths, VC.
 pub struct Course {
     pub t8: u64,
     pub r8: u64,
@@ -19,7 +21,7 @@ pub struct Course {
     pub cr: u64,
     pub plus: u64,
     pub minus: u64,
-    pub vc: u64,
+    pub vc: Kmh,
 }
 
 // The course of a train on a gradient.
@@ -36,15 +38,18 @@ pub fn course_of(k: Coefficients, train: Train, g: Gradient) -> Course
     let up7 = slope * g.rise as u64;
     let dn7 = slope * g.fall as u64;
     let power = k.kr as u64 * (685 * train.weight as u64 + 9400);
+    let cr = k.cr as u64;
+    let plus = nc.plus as u64;
+    let minus = nc.minus as u64;
     Course {
         t8: t8,
         r8: r8,
         up7: up7,
         dn7: dn7,
         power: power,
-        cr: k.cr as u64,
-        plus: nc.plus as u64,
-        minus: nc.minus as u64,
-        vc: vc.0 as u64,
+        cr: cr,
+        plus: plus,
+        minus: minus,
+        vc: vc,
     }
 }

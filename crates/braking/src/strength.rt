@@ -1,7 +1,7 @@
 // How strongly the train brakes, and the speed that is left when it begins to.
 ghost use mathlib.Core.Path.{_≡_};
-ghost use Prim.Native.Nat.{_-_};
-ghost use Rattle.braking.specs.Plan.{sOf, gainOf, lossOf, strongOf, betaOf, Small, Near};
+ghost use Prim.Native.Nat.{_-_, _≤_};
+ghost use Rattle.braking.specs.Plan.{v9, sOf, gainOf, lossOf, strongOf, betaOf, Small, Near};
 use super::Course;
 use train::Kmh;
 
@@ -13,31 +13,38 @@ pub struct Strength {
 }
 
 // The speed, or 1 at standstill, where K0 is 1.
-fn positive(v: u64) -> u64
-    ensures { λ r. ⌜ r ≡ sOf v ⌝ }
+fn positive(v: Kmh) -> u64
+    ensures { λ r. ⌜ r ≡ sOf (v .0) ⌝ }
 {
-    if v > 0 { v } else { 1 }
+    let n = v.0 as u64;
+    if n > 0 { n } else { 1 }
 }
 
 // How far a speed is above another, or 0.
-fn above(v: u64, low: u64) -> u64
-    ensures { λ r. ⌜ r ≡ v - low ⌝ }
+fn above(v: Kmh, low: Kmh) -> u64
+    ensures { λ r. ⌜ r ≡ v .0 - low .0 ⌝ }
 {
-    if v > low { v - low } else { 0 }
+    let n = v.0 as u64;
+    let m = low.0 as u64;
+    if n > m { n - m } else { 0 }
 }
 
-pub fn at(c: Course, v: u64, v0: u64) -> Strength
-    requires { ⌜ Small c × Near v v0 ⌝ }
-    ensures { λ r. ⌜ (r .unit ≡ sOf v) × (r .gain ≡ gainOf c v v0) × (r .loss ≡ lossOf c v v0) ⌝ }
+pub fn at(c: Course, v: Kmh, v0: Kmh) -> Strength
+    requires { ⌜ Small c × Near (v .0) (v0 .0) ⌝ }
+    ensures { λ r. ⌜ (r .unit ≡ sOf (v .0)) × (r .gain ≡ gainOf c (v .0) (v0 .0)) × (r .loss ≡ lossOf c (v .0) (v0 .0)) ⌝ }
 {
+    let vc = c.vc;
+    let slow = v0.0 as u64;
     let unit = positive(v);
-    let fast = above(v, c.vc);
-    let brake = c.power * (100 * unit - c.cr * v0);
+    let fast = above(v, vc);
+    let brake = c.power * (100 * unit - c.cr * slow);
     let slope = 100000 * unit;
+    let gain = brake * (1000 + c.plus * fast) + c.up7 * slope;
+    let loss = brake * (c.minus * fast) + c.dn7 * slope;
     Strength {
         unit: unit,
-        gain: brake * (1000 + c.plus * fast) + c.up7 * slope,
-        loss: brake * (c.minus * fast) + c.dn7 * slope,
+        gain: gain,
+        loss: loss,
     }
 }
 
@@ -46,18 +53,26 @@ pub fn is_strong(c: Course, v: Kmh, v0: Kmh) -> bool
     requires { ⌜ Small c × Near (v .0) (v0 .0) ⌝ }
     ensures { λ r. ⌜ r ≡ strongOf c (v .0) (v0 .0) ⌝ }
 {
-    let s = at(c, v.0 as u64, v0.0 as u64);
+    let s = at(c, v, v0);
     s.loss + 50000000000 * s.unit <= s.gain
 }
 
-// Vβ: the speed after T, never below the target.
-pub fn beta(c: Course, v: u64, v0: u64) -> u64
-    requires { ⌜ Small c × Near v v0 ⌝ }
-    ensures { λ r. ⌜ r ≡ betaOf c v v0 ⌝ }
+// A speed in m/s / (9·10¹⁵).
+pub fn fine(v: Kmh) -> u64
+    requires { ⌜ v .0 ≤ 330 ⌝ }
+    ensures { λ r. ⌜ r ≡ v9 (v .0) ⌝ }
 {
-    let speed = v * 2500000000000000 + 9 * c.dn7 * c.t8;
+    v.0 as u64 * 2500000000000000
+}
+
+// Vβ, as fine: the speed after T, never below the target.
+pub fn beta(c: Course, v: Kmh, v0: Kmh) -> u64
+    requires { ⌜ Small c × Near (v .0) (v0 .0) ⌝ }
+    ensures { λ r. ⌜ r ≡ betaOf c (v .0) (v0 .0) ⌝ }
+{
+    let target = fine(v0);
+    let speed = fine(v) + 9 * c.dn7 * c.t8;
     let lost = 9 * c.up7 * c.t8;
-    let target = v0 * 2500000000000000;
     let floor = lost + target;
     if speed > floor { speed - lost } else { target }
 }

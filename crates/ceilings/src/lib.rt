@@ -44,17 +44,21 @@ const EBI: Band = Band {
 };
 
 // For how many km/h above 110 the ceiling has grown.
-fn grown(v: Kmh, end: Kmh) -> u32
+fn grown(v: Kmh, end: Kmh) -> Kmh
     requires { ⌜ 110 ≤ end .0 ⌝ }
-    ensures { λ r. ⌜ r ≡ grownTo end v ⌝ }
+    ensures { λ r. ⌜ r .0 ≡ grownTo end v ⌝ }
 {
-    if v.0 <= 110 {
-        return 0;
+    let fast = v.0;
+    let last = end.0;
+    if fast <= 110 {
+        return Kmh(0);
     }
-    if v.0 < end.0 {
-        return v.0 - 110;
+    if fast < last {
+        let part = fast - 110;
+        return Kmh(part);
     }
-    end.0 - 110
+    let whole = last - 110;
+    Kmh(whole)
 }
 
 fn ceiling_of(v: Kmh, b: Band) -> Ceiling
@@ -62,8 +66,11 @@ fn ceiling_of(v: Kmh, b: Band) -> Ceiling
     ensures { λ r. ⌜ r ≡ ceilingOf b v ⌝ }
 {
     let end = b.end;
-    let more = b.growth * grown(v, end);
-    Ceiling(120 * v.0 + b.least + more)
+    let above = grown(v, end);
+    let more = b.growth * above.0;
+    let base = 120 * v.0 + b.least;
+    let sum = base + more;
+    Ceiling(sum)
 }
 
 pub fn ceilings(permitted: Kmh) -> Limits

@@ -20,7 +20,8 @@ pub enum Curve {
     P,
 }
 
-// What one pair of speeds gives, for every curve: the deceleration in 10⁻¹² m/s² by the greater of V and 1 km/h; Vβ and V in m/s / (9·10¹⁵); the braking part of a sum; what it is over to be millimetres.
+// What one pair of speeds gives, for every curve: the deceleration in m/s² / (10¹² s), s the greater of V and 1 km/h;
+// Vβ and V in m/s / (9·10¹⁵); the braking part of a sum; what the sum is over to be millimetres.
 pub struct Motion {
     pub a: u64,
     pub beta: u64,
@@ -40,13 +41,11 @@ pub fn motion_at(c: Course, v: Kmh, v0: Kmh) -> Motion
     requires { ⌜ Small c × Near (v .0) (v0 .0) × Enough c (v .0) (v0 .0) ⌝ }
     ensures { λ r. ⌜ IsMotion c (v .0) (v0 .0) r ⌝ }
 {
-    let fast = v.0 as u64;
-    let slow = v0.0 as u64;
-    let speed = fast * 2500000000000000;
-    let target = slow * 2500000000000000;
-    let s = strength::at(c, fast, slow);
+    let speed = strength::fine(v);
+    let target = strength::fine(v0);
+    let s = strength::at(c, v, v0);
     let a = s.gain - s.loss;
-    let b = strength::beta(c, fast, slow);
+    let b = strength::beta(c, v, v0);
     let square = wide::product(b - target, b + target);
     // as a u32: the product then leaves out the upper half
     let unit = (50000 * s.unit) as u32;

@@ -49,7 +49,8 @@ none-holds (c ∷ a) n h = go (c .holds) (c .number) (n .0) h (none-holds a (n .
     go true m k e ih = absurd (rw e at k)
     go false m k e ih = (refl, ih e)
 
--- Lowest applicable number first: where a list goes by rising numbers, no condition that holds has a lower number than the answer, and the answer's own holds.
+-- Lowest applicable number first: where a list goes by rising numbers, no condition that holds has a lower number than the
+-- answer, and the answer's own holds.
 abbrev pub Rising : ℕ → List Refusal → Type 0
 Rising n [] = Unit
 Rising n (c ∷ cs) = T (leb n (c .number)) × Rising (c .number) cs

@@ -42,7 +42,8 @@ pub struct Signed {
     pub minus: u32,
 }
 
-// Document 002's coefficients by its names: h in tenths of a second, nc in thousandths per km/h, i1 in per mille uphill, i2 in per mille downhill, the others in hundredths.
+// Document 002's coefficients by its names: h in tenths of a second, nc in thousandths per km/h, i1 in per mille uphill,
+// i2 in per mille downhill, the others in hundredths.
 pub struct Coefficients {
     pub dt: u32,
     pub h: u32,

@@ -80,21 +80,18 @@ add-power c = omega (arith, power-most (c .before .before .before .before .befor
 mul-power-2 : tie.Need-mul-power-2
 mul-power-2 c = omega (arith, power-most (c .before .before .before .before .before .before .before .before .before .before))
 
-cast-t13 : tie.Need-cast-t13
-cast-t13 c = search needs
+cast-cr : tie.Need-cast-cr
+cast-cr c = search needs
 
-cast-t17 : tie.Need-cast-t17
-cast-t17 c = search needs
+cast-plus : tie.Need-cast-plus
+cast-plus c = search needs
 
-cast-t16 : tie.Need-cast-t16
-cast-t16 c = search needs
-
-cast-t15 : tie.Need-cast-t15
-cast-t15 c = search needs
+cast-minus : tie.Need-cast-minus
+cast-minus c = search needs
 
 returns : tie.Need-returns
 returns c =
-    let f = c .before .before .before .before .before .before .before .before in
+    let f = c .before .before .before .before .before .before .before in
     let d = f .before .before in
     let s = d .before .before .before .before in
     let k = s .args .k in
@@ -146,8 +143,7 @@ course-of-spec =
     mul-power
     add-power
     mul-power-2
-    cast-t13
-    cast-t17
-    cast-t16
-    cast-t15
+    cast-cr
+    cast-plus
+    cast-minus
     returns)

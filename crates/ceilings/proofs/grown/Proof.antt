@@ -5,25 +5,25 @@ use Rattle.ceilings.proofs.grown.Statement.{statement}
 use Rattle.ceilings.proofs.grown.Tie as tie
 
 returns : tie.Need-returns
-returns c = let a = c .before .before .args in sym (grown-low (a .end) (a .v) (omega (arith, c .if1 .taken)))
+returns c = let a = c .before .args in sym (grown-low (a .end) (a .v) (omega (arith, c .if1 .taken)))
 
-sub-result : tie.Need-sub-result
-sub-result c = omega (arith, c .before .before .before .before .if1 .left)
+sub-part : tie.Need-sub-part
+sub-part c = omega (arith, c .before .if1 .left)
 
 returns-2 : tie.Need-returns-2
 returns-2 c =
-    let d = c .before .before .before .before in
-    let a = d .before .before .args in
-    sym (grown-mid (a .end) (a .v) (omega (arith, d .if1 .left)) (omega (arith, c .before .if2 .taken)))
+    let d = c .before in
+    let a = d .before .args in
+    sym (grown-mid (a .end) (a .v) (omega (arith, d .if1 .left)) (omega (arith, c .if2 .taken)))
 
-sub-result-2 : tie.Need-sub-result-2
-sub-result-2 c = omega (arith, c .before .before .before .before .before .before .pre)
+sub-whole : tie.Need-sub-whole
+sub-whole c = omega (arith, c .before .before .pre)
 
 returns-3 : tie.Need-returns-3
 returns-3 c =
-    let d = c .before .before .before .before in
-    let a = d .before .before .args in
-    sym (grown-high (a .end) (a .v) (omega (arith, d .if1 .left)) (omega (arith, c .before .if2 .left)))
+    let d = c .before in
+    let a = d .before .args in
+    sym (grown-high (a .end) (a .v) (omega (arith, d .if1 .left)) (omega (arith, c .if2 .left)))
 
 pub grown-spec : {M : Type 1} → statement M
-grown-spec = tie.close (tie.spec returns sub-result returns-2 sub-result-2 returns-3)
+grown-spec = tie.close (tie.spec returns sub-part returns-2 sub-whole returns-3)

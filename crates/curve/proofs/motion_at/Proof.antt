@@ -1,24 +1,15 @@
-use mathlib.Core.Path.{_≡_, refl, _∙_}
-use Prim.Native.Nat.{ℕ, _*_, _^_, _≤_, _<_}
+use mathlib.Core.Path.{_≡_, _∙_}
+use Prim.Native.Nat.{_*_, _≤_}
 use borrow.Author.Needs.{needs}
 use native.Mathlib.Nat.{mul-comm, le-trans}
 use native.Mathlib.Omega.{arith}
 use Rattle.wide.specs.Value.{valueOf}
 use Rattle.braking.specs.Plan.{v9, aMost, betaMost, speedMost}
-use Rattle.curve.specs.Plan.{squareOf}
 use Rattle.braking.proofs.Bounds.{s-small, gain-small, beta-small, speed-small}
+use Rattle.curve.specs.Plan.{squareOf}
 use Rattle.curve.proofs.Bounds.{part-fits}
 use Rattle.curve.proofs.motion_at.Statement.{statement}
 use Rattle.curve.proofs.motion_at.Tie as tie
-
--- the target's speed, the speed that is left, and the unit
-bounds : (c : tie.After-beta) → let s = c .before .before .before .before .before in let b = c .beta .result in
-    (v9 (s .args .v0 .0) ≤ b) × ((b ≤ betaMost) × (v9 (s .args .v0 .0) ≤ speedMost))
-bounds c =
-    let s = c .before .before .before .before .before in
-    let n = s .pre .1 in
-    let k = beta-small (s .args .c) (s .args .v .0) (s .args .v0 .0) (s .pre .0) n in
-    rw (c .beta .ensures) (k .0, (k .1, speed-small (s .args .v0 .0) (le-trans (n .ahead) (n .high))))
 
 unit-small : (c : tie.After-at) → c .at .result .unit ≤ 330
 unit-small c = let s = c .before .before .before in rw (c .at .ensures .0) (s-small (s .args .v .0) (s .pre .1 .high) .0)
@@ -29,25 +20,24 @@ gain-most c = let s = c .before .before .before in rw (c .at .ensures .1) (gain-
 strong : (c : tie.After-at) → c .at .result .loss ≤ c .at .result .gain
 strong c = let p = c .before .before .before .pre .2 in rw (c .at .ensures .1, c .at .ensures .2) (omega arith)
 
-square-is : (c : tie.After-product) → let s = c .before .before .before .before .before .before in
-    valueOf (c .product .result) ≡ squareOf (c .before .beta .result) (v9 (s .args .v0 .0))
-unfolding squareOf v9
+-- the target is no more than the speed that is left
+bounds : (c : tie.After-beta) → let t = c .before .before .before .fine2 .result in let b = c .beta .result in (t ≤ b) × ((b ≤ betaMost) × (t ≤ speedMost))
+bounds c =
+    let f = c .before .before .before in
+    let s = f .before .before in
+    let n = s .pre .1 in
+    let k = beta-small (s .args .c) (s .args .v .0) (s .args .v0 .0) (s .pre .0) n in
+    rw (c .beta .ensures, f .fine2 .ensures) (k .0, (k .1, speed-small (s .args .v0 .0) (le-trans (n .ahead) (n .high))))
+
+square-is : (c : tie.After-product) → valueOf (c .product .result) ≡ squareOf (c .before .beta .result) (c .before .before .before .before .fine2 .result)
+unfolding squareOf
 square-is c = c .product .ensures
 
-speed-fits : (v : ℕ) → v ≤ 330 → v * 2500000000000000 < 2 ^ 64
-speed-fits v h = omega arith
+fine-requires : tie.Need-fine-requires
+fine-requires c κs = c .pre .1 .high
 
-cast-fast : tie.Need-cast-fast
-cast-fast c = search needs
-
-cast-slow : tie.Need-cast-slow
-cast-slow c = search needs
-
-mul-speed : tie.Need-mul-speed
-mul-speed c = record { fits = speed-fits _ (c .before .before .pre .1 .high) }
-
-mul-target : tie.Need-mul-target
-mul-target c = let n = c .before .before .pre .1 in record { fits = speed-fits _ (le-trans (n .ahead) (n .high)) }
+fine-requires-2 : tie.Need-fine-requires-2
+fine-requires-2 c κs = let n = c .before .pre .1 in le-trans (n .ahead) (n .high)
 
 at-requires : tie.Need-at-requires
 at-requires c κs = let p = c .before .before .pre in (p .0, p .1)
@@ -59,11 +49,9 @@ beta-requires : tie.Need-beta-requires
 beta-requires c κs = let p = c .before .before .before .before .pre in (p .0, p .1)
 
 sub-product : tie.Need-sub-product
-unfolding v9
 sub-product c = omega (arith, bounds c .0)
 
 add-product : tie.Need-add-product
-unfolding v9
 add-product c = omega (arith, bounds c)
 
 product-requires : tie.Need-product-requires
@@ -89,23 +77,19 @@ mul-product c = omega (arith, gain-most (c .before .before .before .before .befo
 product-requires-2 : tie.Need-product-requires-2
 product-requires-2 c κs = search needs
 
-speed-is : (v : ℕ) → v * 2500000000000000 ≡ v9 v
-unfolding v9
-speed-is v = refl
-
 returns : tie.Need-returns
 returns c =
     let t = c .before in
     let b = t .before .before .before in
     let a = b .before .before in
-    let v = a .before .before .before .args .v .0 in
+    let f = a .before in
     let e = a .at .ensures in
     let p = strong a in
     record {
       a = omega (arith, e .1, e .2);
       beta = b .beta .ensures;
-      speed = speed-is v;
-      part = t .times .ensures ∙ rw (square-is (t .before .before), e .0, b .beta .ensures) (mul-comm _ _);
+      speed = f .before .fine .ensures;
+      part = t .times .ensures ∙ rw (square-is (t .before .before), e .0, b .beta .ensures, f .fine2 .ensures) (mul-comm _ _);
       scale = c .product2 .ensures ∙ omega arith;
     }
 
@@ -113,10 +97,8 @@ pub motion-at-spec : {M : Type 1} → statement M
 motion-at-spec =
     tie.close
     (tie.spec
-    cast-fast
-    cast-slow
-    mul-speed
-    mul-target
+    fine-requires
+    fine-requires-2
     at-requires
     sub-a
     beta-requires

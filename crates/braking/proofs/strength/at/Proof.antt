@@ -19,7 +19,7 @@ record Sizes (c : Course) (u x v0 : ℕ) : Type 0 where
   up : c .up7 * (100000 * u) ≤ 135966600000000
   down : c .dn7 * (100000 * u) ≤ 135966600000000
 
-sizes : (c : Course) (v v0 : ℕ) → Small c → Near v v0 → Sizes c (sOf v) (v - c .vc) v0
+sizes : (c : Course) (v v0 : ℕ) → Small c → Near v v0 → Sizes c (sOf v) (v - c .vc .0) v0
 unfolding brakeOf
 sizes c v v0 s n = record {
   unit = s-small v (n .high) .0;
@@ -33,10 +33,13 @@ sizes c v v0 s n = record {
   down = slope-small c v v0 s n (c .dn7) (s .dn7);
 }
 
-known : (c : tie.After-above) → let a = c .before .before .args in Sizes (a .c) (c .before .positive .result) (c .above .result) (a .v0)
+known : (c : tie.After-above) → let a = c .before .before .before .before .args in Sizes (a .c) (c .before .positive .result) (c .above .result) (a .v0 .0)
 known c =
-    let s = c .before .before in
-    rw (c .before .positive .ensures, c .above .ensures) (sizes (s .args .c) (s .args .v) (s .args .v0) (s .pre .0) (s .pre .1))
+    let s = c .before .before .before .before in
+    rw (c .before .positive .ensures, c .above .ensures) (sizes (s .args .c) (s .args .v .0) (s .args .v0 .0) (s .pre .0) (s .pre .1))
+
+cast-slow : tie.Need-cast-slow
+cast-slow c = search needs
 
 positive-requires : tie.Need-positive-requires
 positive-requires c κs = search needs
@@ -59,32 +62,32 @@ mul-brake-3 c = omega (arith, known (c .before .before))
 mul-slope : tie.Need-mul-slope
 mul-slope c = omega (arith, known (c .before .before))
 
-mul-t8 : tie.Need-mul-t8
-mul-t8 c = omega (arith, known (c .before .before .before))
+mul-gain : tie.Need-mul-gain
+mul-gain c = omega (arith, known (c .before .before .before))
 
-add-t10 : tie.Need-add-t10
-add-t10 c = omega (arith, known (c .before .before .before))
+add-gain : tie.Need-add-gain
+add-gain c = omega (arith, known (c .before .before .before))
 
-mul-t9 : tie.Need-mul-t9
-mul-t9 c = omega (arith, known (c .before .before .before))
+mul-gain-2 : tie.Need-mul-gain-2
+mul-gain-2 c = omega (arith, known (c .before .before .before))
 
-mul-t11 : tie.Need-mul-t11
-mul-t11 c = omega (arith, known (c .before .before .before .before))
+mul-gain-3 : tie.Need-mul-gain-3
+mul-gain-3 c = omega (arith, known (c .before .before .before .before))
 
-add-t12 : tie.Need-add-t12
-add-t12 c = omega (arith, known (c .before .before .before .before))
+add-gain-2 : tie.Need-add-gain-2
+add-gain-2 c = omega (arith, known (c .before .before .before .before))
 
-mul-t13 : tie.Need-mul-t13
-mul-t13 c = omega (arith, known (c .before .before .before .before .before))
+mul-loss : tie.Need-mul-loss
+mul-loss c = omega (arith, known (c .before .before .before .before .before))
 
-mul-t14 : tie.Need-mul-t14
-mul-t14 c = omega (arith, known (c .before .before .before .before .before))
+mul-loss-2 : tie.Need-mul-loss-2
+mul-loss-2 c = omega (arith, known (c .before .before .before .before .before))
 
-mul-t15 : tie.Need-mul-t15
-mul-t15 c = omega (arith, known (c .before .before .before .before .before .before))
+mul-loss-3 : tie.Need-mul-loss-3
+mul-loss-3 c = omega (arith, known (c .before .before .before .before .before .before))
 
-add-t16 : tie.Need-add-t16
-add-t16 c = omega (arith, known (c .before .before .before .before .before .before))
+add-loss : tie.Need-add-loss
+add-loss c = omega (arith, known (c .before .before .before .before .before .before))
 
 returns : tie.Need-returns
 unfolding gainOf lossOf brakeOf
@@ -96,6 +99,7 @@ pub at-spec : {M : Type 1} → statement M
 at-spec =
     tie.close
     (tie.spec
+    cast-slow
     positive-requires
     above-requires
     mul-brake
@@ -103,13 +107,13 @@ at-spec =
     sub-brake
     mul-brake-3
     mul-slope
-    mul-t8
-    add-t10
-    mul-t9
-    mul-t11
-    add-t12
-    mul-t13
-    mul-t14
-    mul-t15
-    add-t16
+    mul-gain
+    add-gain
+    mul-gain-2
+    mul-gain-3
+    add-gain-2
+    mul-loss
+    mul-loss-2
+    mul-loss-3
+    add-loss
     returns)

@@ -1,5 +1,4 @@
 use Prim.Native.Nat.{_≤_}
-use borrow.Author.Needs.{needs}
 use native.Mathlib.Omega.{arith}
 use Rattle.braking.specs.Plan.{aMost}
 use Rattle.braking.proofs.Bounds.{s-small, loss-small}
@@ -9,18 +8,12 @@ use Rattle.braking.proofs.strength.is_strong.Tie as tie
 -- the two terms of the sum
 known : (c : tie.After-at) → (c .at .result .unit ≤ 330) × (c .at .result .loss ≤ aMost)
 known c =
-    let s = c .before .before .before in
+    let s = c .before in
     let a = s .args in
     rw (c .at .ensures .0, c .at .ensures .2) (s-small (a .v .0) (s .pre .1 .high) .0, loss-small (a .c) (a .v .0) (a .v0 .0) (s .pre .0) (s .pre .1) .0)
 
-cast-at : tie.Need-cast-at
-cast-at c = search needs
-
-cast-at-2 : tie.Need-cast-at-2
-cast-at-2 c = search needs
-
 at-requires : tie.Need-at-requires
-at-requires c κs = c .before .before .pre
+at-requires c κs = c .pre
 
 mul-result : tie.Need-mul-result
 mul-result c = omega (arith, known (c .before))
@@ -32,4 +25,4 @@ returns : tie.Need-returns
 returns c = let e = c .before .before .before .at .ensures in rw (e .0, e .1, e .2)
 
 pub is-strong-spec : {M : Type 1} → statement M
-is-strong-spec = tie.close (tie.spec cast-at cast-at-2 at-requires mul-result add-result returns)
+is-strong-spec = tie.close (tie.spec at-requires mul-result add-result returns)

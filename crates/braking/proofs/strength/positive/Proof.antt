@@ -1,7 +1,11 @@
+use borrow.Author.Needs.{needs}
 use native.Mathlib.Omega.{arith}
 use Rattle.braking.specs.Plan.{sOf}
 use Rattle.braking.proofs.strength.positive.Statement.{statement}
 use Rattle.braking.proofs.strength.positive.Tie as tie
+
+cast-n : tie.Need-cast-n
+cast-n c = search needs
 
 returns : tie.Need-returns
 unfolding sOf
@@ -12,4 +16,4 @@ unfolding sOf
 returns-2 c = omega arith
 
 pub positive-spec : {M : Type 1} → statement M
-positive-spec = tie.close (tie.spec returns returns-2)
+positive-spec = tie.close (tie.spec cast-n returns returns-2)
