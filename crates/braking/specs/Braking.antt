@@ -14,11 +14,11 @@ use Rattle.train.specs.Slope.{di, dr}
 abbrev pub tR : Fraction
 tR = 10 over 10
 
--- h + tf
+-- section 7: h + tf
 unfoldable pub T : Coefficients → Train → Fraction
 T k t = (k .h over 10) +q tf k t
 
--- section 7.3.1
+-- section 7.3.1; document 01: 1 where V is 0
 unfoldable pub K0 : Coefficients → Kmh → Kmh → Fraction
 K0 k v v0 = cond (eqb (v .0) 0) (whole 1) (whole 1 -q (k .cr over 100) *q (v0 .0 over v .0))
 

@@ -1,3 +1,4 @@
+-- `approach_ceilings`: handed on as they are.
 use borrow.Author.Needs.{needs}
 use Rattle.approach.proofs.approach_ceilings.Statement.{statement}
 use Rattle.approach.proofs.approach_ceilings.Tie as tie

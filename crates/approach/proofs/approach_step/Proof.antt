@@ -1,3 +1,4 @@
+-- `approach_step`: the train and the gradient that are handed on are those that came in.
 use borrow.Author.Needs.{needs}
 use mir.Syntax.{w32}
 use mir.ValLaws.{toZ-ofZ}

@@ -1,3 +1,4 @@
+-- `train_of`: the brake type of each bool.
 use Rattle.approach.proofs.train_of.Statement.{statement}
 use Rattle.approach.proofs.train_of.Tie as tie
 

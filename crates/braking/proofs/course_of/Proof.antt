@@ -1,3 +1,4 @@
+-- `course_of`: every product fits for coefficients within their spans, and each number is the paper's.
 use mathlib.Core.Path.{refl}
 use Prim.Native.Nat.{_+_, _*_, _≤_}
 use borrow.Author.Needs.{needs}

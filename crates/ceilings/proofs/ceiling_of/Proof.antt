@@ -1,3 +1,4 @@
+-- `ceiling_of`: the sum fits 32 bits and is the definition's.
 use Prim.Native.Nat.{_*_, _≤_}
 use native.Mathlib.Nat.{mul-le-mul, le-trans}
 use native.Mathlib.Omega.{arith}

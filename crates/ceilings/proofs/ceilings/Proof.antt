@@ -1,3 +1,4 @@
+-- `ceilings`: refused above 330; else the three ceilings, equal to the printed ones.
 use borrow.Author.Tests.{lt-ltb, le-ltb}
 use native.Mathlib.Omega.{arith}
 use lib.Dec.{T, leb, leb→le}

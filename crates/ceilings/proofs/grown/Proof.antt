@@ -1,3 +1,4 @@
+-- `grown`: the three cases of the definition.
 use mathlib.Core.Path.{sym}
 use native.Mathlib.Omega.{arith}
 use Rattle.ceilings.proofs.Agrees.{grown-low, grown-mid, grown-high}

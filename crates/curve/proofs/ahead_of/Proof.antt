@@ -1,3 +1,4 @@
+-- `ahead_of`: the two counts of each curve.
 use mathlib.Core.Path.{refl}
 use borrow.Author.Needs.{needs}
 use Rattle.curve.proofs.ahead_of.Statement.{statement}

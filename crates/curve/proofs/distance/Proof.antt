@@ -1,3 +1,4 @@
+-- `distance`: the quotient has 32 bits.
 use mathlib.Core.Path.{_∙_}
 use native.Mathlib.Nat.{mul-pos}
 use lib.Dec.{lit<}

@@ -1,3 +1,4 @@
+-- `fits`: both sides fit 192 bits.
 use mathlib.Core.Path.{_∙_}
 use borrow.Author.Needs.{needs}
 use native.Mathlib.Omega.{arith}

@@ -1,3 +1,4 @@
+-- `motion_at`: the products fit, and each number is the plan's.
 use mathlib.Core.Path.{_≡_, _∙_}
 use Prim.Native.Nat.{_*_, _≤_}
 use borrow.Author.Needs.{needs}

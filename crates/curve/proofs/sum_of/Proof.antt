@@ -1,3 +1,4 @@
+-- `sum_of`: the way times 9 a and the braking part fit 192 bits, and are the plan's sum.
 use mathlib.Core.Path.{_≡_, _∙_}
 use Prim.Native.Nat.{ℕ, _+_, _*_, _^_, _≤_, _<_}
 use borrow.Author.Needs.{needs}

@@ -1,3 +1,4 @@
+-- `distances_at`: each of the four is the plan's distance.
 use mathlib.Core.Path.{_≡_, _∙_}
 use Prim.Native.Nat.{ℕ}
 use Rattle.exact.specs.Fraction.{_over_, raised}

@@ -1,3 +1,4 @@
+-- `fill`: after k turns the first k places are the plan's, and what lies from n on is as it was.
 use Prim.Native.Nat.{_+_, _-_, _≤_}
 use mathlib.Core.Path.{_≡_, refl, ap, _∙_}
 use native.Mathlib.Omega.{arith}

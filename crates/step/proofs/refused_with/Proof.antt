@@ -1,3 +1,4 @@
+-- `refused_with`: the number, and zeros.
 use mathlib.Core.Path.{refl}
 use Rattle.step.proofs.refused_with.Statement.{statement}
 use Rattle.step.proofs.refused_with.Tie as tie

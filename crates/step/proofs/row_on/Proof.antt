@@ -1,3 +1,4 @@
+-- `row_on`: a refusal leaves the list; else its first places are the row, and the rest is as it was.
 use borrow.Author.Needs.{needs}
 use denote.Ref.{now}
 use native.Mathlib.Nat.{le-refl}

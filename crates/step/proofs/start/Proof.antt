@@ -1,3 +1,4 @@
+-- `start`: the inputs' refusal, or 10, or a course that is the paper's and strong enough.
 use mathlib.Core.Path.{_≡_, sym, _∙_}
 use mathlib.Core.Bool.{true, false}
 use mathlib.Core.List.{_++_}

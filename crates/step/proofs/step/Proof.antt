@@ -1,3 +1,4 @@
+-- `step`: the gradient that is handed on is the one that came in.
 use borrow.Author.Needs.{needs}
 use mir.Syntax.{w32}
 use mir.ValLaws.{toZ-ofZ}

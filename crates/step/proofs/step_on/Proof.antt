@@ -1,3 +1,4 @@
+-- `step_on`: a refusal is the definition's, and so are the four distances.
 use borrow.Author.Needs.{needs}
 use native.Mathlib.Nat.{le-refl}
 use Rattle.step.specs.declared.Begun.the-variants.{Refused}

@@ -1,3 +1,4 @@
+-- `turned_away`: the train's list decides, or where it turns nothing away, the speeds' and the gradient's.
 use mathlib.Core.Path.{_≡_, sym, _∙_}
 use mathlib.Core.List.{_++_}
 use Prim.Native.Nat.{ℕ}

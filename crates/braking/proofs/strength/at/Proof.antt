@@ -1,3 +1,4 @@
+-- `at`: the bounds on a course and its speeds keep every product small, and the sums are the plan's.
 use Prim.Native.Nat.{ℕ, _+_, _*_, _-_, _≤_}
 use borrow.Author.Needs.{needs}
 use native.Mathlib.Omega.{arith}

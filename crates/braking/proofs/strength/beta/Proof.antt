@@ -1,3 +1,4 @@
+-- `beta`: the speed less what the climb takes, or the target if that is more.
 use Prim.Native.Nat.{_*_, _≤_}
 use native.Mathlib.Nat.{le-trans}
 use native.Mathlib.Omega.{arith}

@@ -1,3 +1,4 @@
+-- `fine`: the product fits for speeds up to 330 km/h.
 use mathlib.Core.Path.{refl}
 use borrow.Author.Needs.{needs}
 use native.Mathlib.Omega.{arith}

@@ -1,3 +1,4 @@
+-- `is_strong`: the test is the plan's, and its sum fits.
 use Prim.Native.Nat.{_≤_}
 use native.Mathlib.Omega.{arith}
 use Rattle.braking.specs.Plan.{aMost}

@@ -1,3 +1,4 @@
+-- `positive`: the greater of the speed and 1.
 use borrow.Author.Needs.{needs}
 use native.Mathlib.Omega.{arith}
 use Rattle.braking.specs.Plan.{sOf}

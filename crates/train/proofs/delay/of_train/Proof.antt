@@ -1,3 +1,4 @@
+-- `of_train`: the passenger row by the brake, then the larger of both for freight.
 use mathlib.Core.Path.{_≡_}
 use mathlib.Core.Logic.{⊎-elim}
 use Prim.Native.Nat.{ℕ, _≤_, max}

@@ -1,3 +1,4 @@
+-- `row_delay`: the millionths fit 32 bits and are the row's delay.
 use Prim.Native.Nat.{ℕ, _+_, _*_, _≤_}
 use borrow.Author.Needs.{needs}
 use native.Mathlib.Omega.{arith}

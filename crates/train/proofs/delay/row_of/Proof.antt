@@ -1,3 +1,4 @@
+-- `row_of`: the table's row of each brake type is the definition's.
 use borrow.Author.Needs.{needs}
 use Rattle.train.proofs.delay.row_of.Statement.{statement}
 use Rattle.train.proofs.delay.row_of.Tie as tie

@@ -1,3 +1,4 @@
+-- `of_gradient`: each test is one entry of the list.
 use borrow.Author.Tests.{lt-ltb, le-ltb}
 use Rattle.train.proofs.refusal.of_gradient.Statement.{statement}
 use Rattle.train.proofs.refusal.of_gradient.Tie as tie

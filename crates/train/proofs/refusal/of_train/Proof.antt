@@ -1,3 +1,4 @@
+-- `of_train`: the weight's list decides, or where it turns nothing away, the rest.
 use mathlib.Core.Path.{_≡_, sym, _∙_}
 use Prim.Native.Nat.{ℕ}
 use borrow.Author.Needs.{needs}

@@ -1,3 +1,4 @@
+-- `of_weight`: each test is one entry of the list.
 use borrow.Author.Tests.{lt-ltb, le-ltb}
 use Rattle.train.proofs.refusal.of_weight.Statement.{statement}
 use Rattle.train.proofs.refusal.of_weight.Tie as tie

@@ -1,3 +1,4 @@
+-- `factor_of`: the three cases of the definition.
 use native.Mathlib.Omega.{arith}
 use Rattle.train.proofs.Spans.{factor-up, factor-down, factor-between}
 use Rattle.train.proofs.slope.factor_of.Statement.{statement}

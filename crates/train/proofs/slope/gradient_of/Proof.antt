@@ -1,3 +1,4 @@
+-- `gradient_of`: a number of 0 or more is its rise; below 0, i + 1 and its negative fit, and one more is the fall.
 use mathlib.Core.Path.{_≡_}
 use mathlib.Core.Bool.{true, false}
 use lib.IntN.{pos, _+ℤ_, _-ℤ_}
