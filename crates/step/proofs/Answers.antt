@@ -14,7 +14,7 @@ use Rattle.train.specs.Units.{kmh}
 use Rattle.train.specs.Coefficients.{first}
 use Rattle.train.specs.Gradient.{Moderate}
 use Rattle.train.specs.Refusal.{Refusal, _gives_, firstOf}
-use Rattle.train.proofs.Refusals.{Numbered, Rising, first-after, first-before, none-holds}
+use Rattle.train.proofs.Refusals.{Rising, rising-before, first-after, first-before, none-holds}
 use Rattle.curve.specs.declared.Curve.{Curve}
 use Rattle.curve.specs.declared.Curve.the-variants.{Ebi, Sbi, W, P}
 use Rattle.braking.specs.declared.Course.{Course}
@@ -38,13 +38,20 @@ pub record Accepted (t : Train) (g : Gradient) (v v0 : Kmh) : Type 0 where
   pub gradient : Moderate g
   pub speeds : Near (v .0) (v0 .0)
 
+-- the refusals go by rising numbers, so the lowest that applies is the answer (the train's `lowest` and `applies`)
+pub step-rising : (t : Train) (g : Gradient) (v v0 : Kmh) → Rising 1 (stepRefusals first t g v v0)
+step-rising t g v v0 = (tt, (tt, (tt, (tt, (tt, (tt, (tt, (tt, (tt, (tt, (tt, (tt, tt))))))))))))
+
+pub row-rising : (t : Train) (g : Gradient) (v0 : Kmh) (room : ℕ) → Rising 1 (rowRefusals first t g v0 room)
+row-rising t g v0 room = (tt, (tt, (tt, (tt, (tt, (tt, (tt, (tt, (tt, (tt, (tt, (tt, (tt, tt)))))))))))))
+
 module _ (t : Train) (g : Gradient) (v v0 : Kmh) where
-  pub inputs-numbered : Numbered (inputs t g v v0)
-  inputs-numbered = (tt, (tt, (tt, (tt, (tt, (tt, (tt, (tt, (tt, (tt, (tt, tt)))))))))))
+  pub inputs-rising : Rising 1 (inputs t g v v0)
+  inputs-rising = rising-before 1 (inputs t g v v0) (weak first t g v v0) (step-rising t g v v0)
 
   pub inputs-fit : firstOf (inputs t g v v0) ≡ 0 → Accepted t g v v0
   inputs-fit h =
-      let n = none-holds (inputs t g v v0) inputs-numbered h in
+      let n = none-holds 0 (inputs t g v v0) inputs-rising h in
       let m = n .1 .1 .1 .1 .1 .1 in
       record {
         weight = ltb-false _ _ (n .1 .0);
@@ -52,13 +59,6 @@ module _ (t : Train) (g : Gradient) (v v0 : Kmh) where
         gradient = record { rise = ltb-false _ _ (m .1 .1 .1 .0); fall = ltb-false _ _ (m .1 .1 .1 .1 .0) };
         speeds = record { high = ltb-false _ _ (m .0); ahead = ltb-false _ _ (m .1 .1 .0) };
       }
-
--- so the lowest number that applies is the answer (`lowest` and `applies` of the train)
-pub step-rising : (t : Train) (g : Gradient) (v v0 : Kmh) → Rising 1 (stepRefusals first t g v v0)
-step-rising t g v v0 = (tt, (tt, (tt, (tt, (tt, (tt, (tt, (tt, (tt, (tt, (tt, (tt, tt))))))))))))
-
-pub row-rising : (t : Train) (g : Gradient) (v0 : Kmh) (room : ℕ) → Rising 1 (rowRefusals first t g v0 room)
-row-rising t g v0 room = (tt, (tt, (tt, (tt, (tt, (tt, (tt, (tt, (tt, (tt, (tt, (tt, (tt, tt)))))))))))))
 
 -- a single distance's answer, and that it is exact where it is given
 module _ (t : Train) (g : Gradient) (v v0 : Kmh) where
@@ -84,8 +84,8 @@ module _ (t : Train) (g : Gradient) (x : Curve) (v0 : Kmh) (lent : List ℕ) whe
   abbrev before : List Refusal
   before = inputs t g (t .top) v0 ++ weak first t g v0 v0
 
-  before-numbered : Numbered before
-  before-numbered = (tt, (tt, (tt, (tt, (tt, (tt, (tt, (tt, (tt, (tt, (tt, (tt, tt))))))))))))
+  before-rising : Rising 1 before
+  before-rising = rising-before 1 before short (row-rising t g v0 (length lent))
 
   refused-row : (n : ℕ) → 0 < n → firstOf (rowRefusals first t g v0 (length lent)) ≡ n → Row (record { refusal = n; length = 0 }) lent
   unfolding rowAnswer rowAfter
@@ -96,7 +96,7 @@ module _ (t : Train) (g : Gradient) (x : Curve) (v0 : Kmh) (lent : List ℕ) whe
 
   module _ (z : firstOf before ≡ 0) where
     pub row-short : length lent < speeds t v0 → Row (record { refusal = 11; length = 0 }) lent
-    row-short l = refused-row 11 (lit< tt) (first-after before short before-numbered z ∙ rw (lt-ltb (length lent) (speeds t v0) l))
+    row-short l = refused-row 11 (lit< tt) (first-after 0 before short before-rising z ∙ rw (lt-ltb (length lent) (speeds t v0) l))
 
     module _ (c : Course) (is : IsCourse first t g c) (enough : Enough c (v0 .0) (v0 .0)) where
       -- strong at V0, so at every speed above
@@ -119,7 +119,7 @@ module _ (t : Train) (g : Gradient) (x : Curve) (v0 : Kmh) (lent : List ℕ) whe
       pub row-given : (after : List ℕ) → n ≤ length lent → after ≡ upTo (λ i. placeOf x c (v0 .0 + i) (v0 .0)) n ++ drop n lent → Row (record { refusal = 0; length = n }) after
       unfolding rowAnswer rowAfter
       row-given after l e =
-          let r : firstOf (rowRefusals first t g v0 (length lent)) ≡ 0 = first-after before short before-numbered z ∙ rw (le-ltb (length lent) n l) in
+          let r : firstOf (rowRefusals first t g v0 (length lent)) ≡ 0 = first-after 0 before short before-rising z ∙ rw (le-ltb (length lent) n l) in
           let p : after ≡ upTo exactly n ++ drop n lent = e ∙ ap (λ q. q ++ drop n lent) (same-places _ exactly n (λ i h. row-is i)) in
           record {
             answer = rw r;

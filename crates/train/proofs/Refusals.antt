@@ -1,33 +1,39 @@
--- Lists of refusals: one list after another, and what is left where none holds.
+-- Lists of refusals by rising numbers: one list after another, what is left where none holds, and that the lowest number that applies is the answer.
 use mathlib.Core.Path.{_≡_, refl, sym, subst}
-use mathlib.Core.Bool.{Bool, true, false, not, cond}
+use mathlib.Core.Bool.{Bool, true, false, cond}
 use mathlib.Core.List.{List, [], _∷_, _++_}
 use mathlib.Core.Logic.{_⊎_, inl, inr, ⊎-elim}
-use Prim.Native.Nat.{ℕ, _≤_}
+use Prim.Native.Nat.{ℕ, zero, suc, _≤_}
+use native.Mathlib.Omega.{arith}
 use native.Mathlib.Nat.{le-trans, le-of-eq}
-use lib.Dec.{T, eqb, leb, leb→le}
+use lib.Dec.{T, leb, leb→le}
 use Rattle.train.specs.declared.Train.{Train}
-use Rattle.train.specs.Refusal.{Refusal, firstOf, weightRefusals, trainRefusals}
+use Rattle.train.specs.Refusal.{Refusal, firstOf, weightRefusals, lengthRefusals, trainRefusals}
 
--- no number is 0
-abbrev pub Numbered : List Refusal → Type 0
-Numbered [] = Unit
-Numbered (c ∷ cs) = T (not (eqb (c .number) 0)) × Numbered cs
+-- the numbers rise from n on
+abbrev pub Rising : ℕ → List Refusal → Type 0
+Rising n [] = Unit
+Rising n (c ∷ cs) = T (leb n (c .number)) × Rising (c .number) cs
 
-pub weight-numbered : (w : ℕ) → Numbered (weightRefusals w)
-weight-numbered w = (tt, (tt, (tt, tt)))
+pub rising-before : (n : ℕ) (a b : List Refusal) → Rising n (a ++ b) → Rising n a
+rising-before n [] b r = tt
+rising-before n (c ∷ a) b r = (r .0, rising-before (c .number) a b (r .1))
 
-pub train-numbered : (t : Train) → Numbered (trainRefusals t)
-train-numbered t = (tt, (tt, (tt, (tt, (tt, (tt, tt))))))
+pub train-rising : (t : Train) → Rising 1 (trainRefusals t)
+train-rising t = (tt, (tt, (tt, (tt, (tt, (tt, tt))))))
+
+pub weight-rising : (t : Train) → Rising 1 (weightRefusals (t .weight))
+weight-rising t = rising-before 1 (weightRefusals (t .weight)) (lengthRefusals t) (train-rising t)
 
 -- where the first of two lists turns nothing away, the second decides; else the first does
-pub first-after : (a b : List Refusal) → Numbered a → firstOf a ≡ 0 → firstOf (a ++ b) ≡ firstOf b
-first-after [] b n h = refl
-first-after (c ∷ a) b n h = go (c .holds) (c .number) (n .0) h (first-after a b (n .1))
+pub first-after : (n : ℕ) (a b : List Refusal) → Rising (suc n) a → firstOf a ≡ 0 → firstOf (a ++ b) ≡ firstOf b
+first-after n [] b r h = refl
+first-after n (c ∷ a) b r h = go (c .holds) (c .number) (r .0) (r .1) h (λ k. first-after k a b)
   where
-    go : (t : Bool) (m : ℕ) → T (not (eqb m 0)) → cond t m (firstOf a) ≡ 0 → (firstOf a ≡ 0 → firstOf (a ++ b) ≡ firstOf b) → cond t m (firstOf (a ++ b)) ≡ firstOf b
-    go true m k e ih = absurd (rw e at k)
-    go false m k e ih = ih e
+    go : (t : Bool) (m : ℕ) → T (leb (suc n) m) → Rising m a → cond t m (firstOf a) ≡ 0 → ((k : ℕ) → Rising (suc k) a → firstOf a ≡ 0 → firstOf (a ++ b) ≡ firstOf b) → cond t m (firstOf (a ++ b)) ≡ firstOf b
+    go t zero l r e ih = absurd (let k = leb→le (suc n) 0 l in omega arith)
+    go true (suc m) l r e ih = absurd (let k : suc m ≡ 0 = e in omega arith)
+    go false (suc m) l r e ih = ih m r e
 
 pub first-before : (a b : List Refusal) → (firstOf a ≡ 0 → ⊥) → firstOf (a ++ b) ≡ firstOf a
 first-before [] b h = absurd (h refl)
@@ -41,20 +47,16 @@ abbrev pub NoneHolds : List Refusal → Type 0
 NoneHolds [] = Unit
 NoneHolds (c ∷ cs) = (c .holds ≡ false) × NoneHolds cs
 
-pub none-holds : (a : List Refusal) → Numbered a → firstOf a ≡ 0 → NoneHolds a
-none-holds [] n h = tt
-none-holds (c ∷ a) n h = go (c .holds) (c .number) (n .0) h (none-holds a (n .1))
+pub none-holds : (n : ℕ) (a : List Refusal) → Rising (suc n) a → firstOf a ≡ 0 → NoneHolds a
+none-holds n [] r h = tt
+none-holds n (c ∷ a) r h = go (c .holds) (c .number) (r .0) (r .1) h (λ k. none-holds k a)
   where
-    go : (t : Bool) (m : ℕ) → T (not (eqb m 0)) → cond t m (firstOf a) ≡ 0 → (firstOf a ≡ 0 → NoneHolds a) → (t ≡ false) × NoneHolds a
-    go true m k e ih = absurd (rw e at k)
-    go false m k e ih = (refl, ih e)
+    go : (t : Bool) (m : ℕ) → T (leb (suc n) m) → Rising m a → cond t m (firstOf a) ≡ 0 → ((k : ℕ) → Rising (suc k) a → firstOf a ≡ 0 → NoneHolds a) → (t ≡ false) × NoneHolds a
+    go t zero l r e ih = absurd (let k = leb→le (suc n) 0 l in omega arith)
+    go true (suc m) l r e ih = absurd (let k : suc m ≡ 0 = e in omega arith)
+    go false (suc m) l r e ih = (refl, ih m r e)
 
--- Lowest applicable number first: where a list goes by rising numbers, no condition that holds has a lower number than the
--- answer, and the answer's own holds.
-abbrev pub Rising : ℕ → List Refusal → Type 0
-Rising n [] = Unit
-Rising n (c ∷ cs) = T (leb n (c .number)) × Rising (c .number) cs
-
+-- Document 01: lowest applicable number first. No condition that holds has a lower number than the answer, and the answer's own holds.
 abbrev pub Applies : ℕ → List Refusal → Type 0
 Applies m [] = ⊥
 Applies m (c ∷ cs) = ((c .holds ≡ true) × (c .number ≡ m)) ⊎ Applies m cs

@@ -16,7 +16,7 @@ use Rattle.braking.specs.Braking.{strong}
 use Rattle.braking.specs.Agreement.{IsCourse}
 use Rattle.braking.proofs.Exact.{strong-is}
 use Rattle.step.specs.Answer.{inputs, weak}
-use Rattle.step.proofs.Answers.{Accepted, inputs-numbered, inputs-fit}
+use Rattle.step.proofs.Answers.{Accepted, inputs-rising, inputs-fit}
 use Rattle.step.proofs.start.Statement.{statement}
 use Rattle.step.proofs.start.Tie as tie
 
@@ -47,7 +47,7 @@ decides : (c : tie.Else1) → let a = c .before .before .args in let w = weak fi
     firstOf (inputs (a .train) (a .g) (a .v) (a .v0) ++ w) ≡ firstOf w
 decides c =
     let a = c .before .before .args in
-    first-after (inputs (a .train) (a .g) (a .v) (a .v0)) (weak first (a .train) (a .g) (a .at) (a .v0)) (inputs-numbered (a .train) (a .g) (a .v) (a .v0)) (passed c)
+    first-after 0 (inputs (a .train) (a .g) (a .v) (a .v0)) (weak first (a .train) (a .g) (a .at) (a .v0)) (inputs-rising (a .train) (a .g) (a .v) (a .v0)) (passed c)
 
 turned-away-requires : tie.Need-turned-away-requires
 turned-away-requires c κs = search needs

@@ -6,7 +6,7 @@ use borrow.Author.Needs.{needs}
 use borrow.Author.Tests.{lt-ltb, le-ltb}
 use native.Mathlib.Omega.{arith}
 use Rattle.train.specs.Refusal.{firstOf, trainRefusals, gradientRefusals}
-use Rattle.train.proofs.Refusals.{train-numbered, first-after, first-before}
+use Rattle.train.proofs.Refusals.{train-rising, first-after, first-before}
 use Rattle.step.specs.Answer.{inputs, speedRefusals}
 use Rattle.step.proofs.turned_away.Statement.{statement}
 use Rattle.step.proofs.turned_away.Tie as tie
@@ -16,7 +16,7 @@ after : (c : tie.Else1) (n : ℕ) → let a = c .before .before .args in
     firstOf (speedRefusals (a .v) (a .v0) ++ gradientRefusals (a .g)) ≡ n → n ≡ firstOf (inputs (a .train) (a .g) (a .v) (a .v0))
 after c n e =
     let a = c .before .before .args in
-    sym (first-after (trainRefusals (a .train)) (speedRefusals (a .v) (a .v0) ++ gradientRefusals (a .g)) (train-numbered (a .train)) (omega (arith, c .if1 .left, c .before .of-train .ensures)) ∙ e)
+    sym (first-after 0 (trainRefusals (a .train)) (speedRefusals (a .v) (a .v0) ++ gradientRefusals (a .g)) (train-rising (a .train)) (omega (arith, c .if1 .left, c .before .of-train .ensures)) ∙ e)
 
 of-train-requires : tie.Need-of-train-requires
 of-train-requires c κs = search needs

@@ -5,7 +5,7 @@ use borrow.Author.Needs.{needs}
 use borrow.Author.Tests.{lt-ltb, le-ltb}
 use native.Mathlib.Omega.{arith}
 use Rattle.train.specs.Refusal.{firstOf, weightRefusals, lengthRefusals, trainRefusals}
-use Rattle.train.proofs.Refusals.{weight-numbered, first-after, first-before}
+use Rattle.train.proofs.Refusals.{weight-rising, first-after, first-before}
 use Rattle.train.proofs.refusal.of_train.Statement.{statement}
 use Rattle.train.proofs.refusal.of_train.Tie as tie
 
@@ -13,7 +13,7 @@ use Rattle.train.proofs.refusal.of_train.Tie as tie
 after : (c : tie.Else1) (n : ℕ) → let t = c .before .before .before .before .args .train in firstOf (lengthRefusals t) ≡ n → n ≡ firstOf (trainRefusals t)
 after c n e =
     let t = c .before .before .before .before .args .train in
-    sym (first-after (weightRefusals (t .weight)) (lengthRefusals t) (weight-numbered (t .weight)) (omega (arith, c .if1 .left, c .before .of-weight .ensures)) ∙ e)
+    sym (first-after 0 (weightRefusals (t .weight)) (lengthRefusals t) (weight-rising t) (omega (arith, c .if1 .left, c .before .of-weight .ensures)) ∙ e)
 
 of-weight-requires : tie.Need-of-weight-requires
 of-weight-requires c κs = search needs
