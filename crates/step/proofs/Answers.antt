@@ -25,7 +25,6 @@ use Rattle.braking.specs.Agreement.{IsCourse}
 use Rattle.braking.proofs.Exact.{strong-is}
 use Rattle.curve.proofs.Exact.{distance-is, distance-least}
 use Rattle.braking.proofs.Rising.{strong-stays}
-use Rattle.step.specs.declared.Distances.{Distances}
 use Rattle.step.specs.declared.Written.{Written}
 use Rattle.step.specs.Answer.{inputs, refused, weak, stepRefusals, stepOf, StepAnswers, upTo, speeds, rowRefusals, rowAnswer, rowAfter, RowAnswers}
 use Rattle.step.specs.Begin.{placesOf}

@@ -63,10 +63,11 @@ fn turned_away(train: Train, v: Kmh, v0: Kmh, g: Gradient) -> u32
 }
 
 // What stands before every distance. The train is to be strong enough at the speed `at`, which lies between v0 and v.
-fn start(train: Train, v: Kmh, v0: Kmh, at: Kmh, g: Gradient) -> Begun
+fn start(train: Train, v: Kmh, v0: Kmh, at: Kmh, gradient: i32) -> Begun
     requires { ⌜ (v0 .0 ≤ v .0 → (v0 .0 ≤ at .0) × (at .0 ≤ v .0)) ⌝ }
-    ensures { λ r. ⌜ Starts train g v v0 at r ⌝ }
+    ensures { λ r. ⌜ Starts train (gradientOf gradient) v v0 at r ⌝ }
 {
+    let g = train::slope::gradient_of(gradient);
     let bad = turned_away(train, v, v0, g);
     if bad > 0 {
         return Begun::Refused(bad);
@@ -106,22 +107,15 @@ fn distances_at(c: Course, v: Kmh, v0: Kmh) -> Distances
     }
 }
 
-// The four distances, on a gradient as rise and fall.
-pub fn step_on(train: Train, v: Kmh, v0: Kmh, g: Gradient) -> Distances
-    ensures { λ r. ⌜ StepAnswers first train g v v0 r ⌝ }
-{
-    let begun = start(train, v, v0, v, g);
-    match begun {
-        Begun::Refused(n) => refused_with(n),
-        Begun::Ready(c) => distances_at(c, v, v0),
-    }
-}
-
 // The four distances from v to the target v0.
 pub fn step(train: Train, v: Kmh, v0: Kmh, gradient: i32) -> Distances
     ensures { λ r. ⌜ StepAnswers first train (gradientOf gradient) v v0 r ⌝ }
 {
-    step_on(train, v, v0, train::slope::gradient_of(gradient))
+    let begun = start(train, v, v0, v, gradient);
+    match begun {
+        Begun::Refused(n) => refused_with(n),
+        Begun::Ready(c) => distances_at(c, v, v0),
+    }
 }
 
 // One curve's distances for n speeds from v0 on.
@@ -139,12 +133,12 @@ fn fill(curve: Curve, c: Course, v0: Kmh, n: usize, out: &mut [u32])
     }
 }
 
-// A row, on a gradient as rise and fall.
-pub fn row_on(curve: Curve, train: Train, v0: Kmh, g: Gradient, out: &mut [u32]) -> Written
-    ensures { λ r. ⌜ RowAnswers first train g curve v0 (now (out .entry)) r (now (out .exit)) ⌝ }
+// A row of one curve: its distances from every speed of v0 to the top speed, v0 first.
+pub fn row(curve: Curve, train: Train, v0: Kmh, gradient: i32, out: &mut [u32]) -> Written
+    ensures { λ r. ⌜ RowAnswers first train (gradientOf gradient) curve v0 (now (out .entry)) r (now (out .exit)) ⌝ }
 {
     let top = train.top;
-    let begun = start(train, top, v0, v0, g);
+    let begun = start(train, top, v0, v0, gradient);
     match begun {
         Begun::Refused(n) => Written {
             refusal: n,
@@ -166,11 +160,4 @@ pub fn row_on(curve: Curve, train: Train, v0: Kmh, g: Gradient, out: &mut [u32])
             }
         }
     }
-}
-
-// A row of one curve: its distances from every speed of v0 to the top speed, v0 first.
-pub fn row(curve: Curve, train: Train, v0: Kmh, gradient: i32, out: &mut [u32]) -> Written
-    ensures { λ r. ⌜ RowAnswers first train (gradientOf gradient) curve v0 (now (out .entry)) r (now (out .exit)) ⌝ }
-{
-    row_on(curve, train, v0, train::slope::gradient_of(gradient), out)
 }

@@ -1,11 +1,11 @@
 -- `motion_at`: the products fit, and each number is the plan's.
 use mathlib.Core.Path.{_≡_, _∙_}
-use Prim.Native.Nat.{_*_, _≤_}
+use Prim.Native.Nat.{_≤_}
 use borrow.Author.Needs.{needs}
 use native.Mathlib.Nat.{mul-comm, le-trans}
 use native.Mathlib.Omega.{arith}
 use Rattle.wide.specs.Value.{valueOf}
-use Rattle.braking.specs.Plan.{v9, aMost, betaMost, speedMost}
+use Rattle.braking.specs.Plan.{aMost, betaMost, speedMost}
 use Rattle.braking.proofs.Bounds.{s-small, gain-small, beta-small, speed-small}
 use Rattle.curve.specs.Plan.{squareOf}
 use Rattle.curve.proofs.Bounds.{part-fits}

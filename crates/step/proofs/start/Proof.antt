@@ -5,9 +5,12 @@ use mathlib.Core.List.{_++_}
 use borrow.Author.Needs.{needs}
 use borrow.Author.Tests.{leb-true, not-true, not-false}
 use lib.Dec.{lit<}
+use mir.Syntax.{w32}
+use mir.ValLaws.{toZ-ofZ}
 use native.Mathlib.Nat.{le-trans}
 use native.Mathlib.Omega.{arith}
 use Rattle.train.specs.Coefficients.{first}
+use Rattle.train.specs.Gradient.{gradientOf}
 use Rattle.train.specs.Refusal.{firstOf}
 use Rattle.train.proofs.Refusals.{first-after, first-before}
 use Rattle.train.proofs.Spans.{first-within}
@@ -20,43 +23,56 @@ use Rattle.step.proofs.Answers.{Accepted, inputs-rising, inputs-fit}
 use Rattle.step.proofs.start.Statement.{statement}
 use Rattle.step.proofs.start.Tie as tie
 
+gradient-is : (c : tie.After-gradient-of) → c .gradient-of .result ≡ gradientOf (c .before .args .gradient)
+gradient-is c = rw (toZ-ofZ w32 (c .before .args .gradient) (c .before .fits .gradient)) at (c .gradient-of .ensures)
+
 -- the inputs are not turned away
-passed : (c : tie.Else1) → let a = c .before .before .args in firstOf (inputs (a .train) (a .g) (a .v) (a .v0)) ≡ 0
+passed : (c : tie.Else1) → let g = c .before .before in let a = g .before .args in firstOf (inputs (a .train) (g .gradient-of .result) (a .v) (a .v0)) ≡ 0
 passed c = omega (arith, c .if1 .left, c .before .turned-away .ensures)
 
-fits : (c : tie.Else1) → let a = c .before .before .args in Accepted (a .train) (a .g) (a .v) (a .v0)
-fits c = let a = c .before .before .args in inputs-fit (a .train) (a .g) (a .v) (a .v0) (passed c)
+fits : (c : tie.Else1) → let g = c .before .before in let a = g .before .args in Accepted (a .train) (g .gradient-of .result) (a .v) (a .v0)
+fits c = let g = c .before .before in let a = g .before .args in inputs-fit (a .train) (g .gradient-of .result) (a .v) (a .v0) (passed c)
 
-near : (c : tie.Else1) → let a = c .before .before .args in Near (a .at .0) (a .v0 .0)
+near : (c : tie.Else1) → let a = c .before .before .before .args in Near (a .at .0) (a .v0 .0)
 near c =
     let n = fits c .speeds in
-    let b = c .before .before .pre (n .ahead) in
+    let b = c .before .before .before .pre (n .ahead) in
     record { high = le-trans (b .1) (n .high); ahead = b .0 }
 
-course : (c : tie.After-course-of) → let a = c .before .before .before .before .args in IsCourse first (a .train) (a .g) (c .course-of .result)
+course : (c : tie.After-course-of) → let g = c .before .before .before .before in IsCourse first (g .before .args .train) (g .gradient-of .result) (c .course-of .result)
 course c = rw (c .before .first-values .ensures) at (c .course-of .ensures)
 
 -- the test says what the definition says
-strong-says : (c : tie.After-is-strong) → let a = c .before .before .before .before .before .args in c .is-strong .result ≡ strong first (a .train) (a .g) (a .at) (a .v0)
+strong-says : (c : tie.After-is-strong) → let g = c .before .before .before .before .before in let a = g .before .args in
+    c .is-strong .result ≡ strong first (a .train) (g .gradient-of .result) (a .at) (a .v0)
 strong-says c =
-    let a = c .before .before .before .before .before .args in
-    c .is-strong .ensures ∙ strong-is first (a .train) (a .g) (c .before .course-of .result) (course (c .before)) (a .at) (a .v0) (near (c .before .before .before) .ahead)
+    let g = c .before .before .before .before .before in
+    let a = g .before .args in
+    c .is-strong .ensures
+    ∙ strong-is first (a .train) (g .gradient-of .result) (c .before .course-of .result) (course (c .before)) (a .at) (a .v0) (near (c .before .before .before) .ahead)
 
 -- so refusal 10 decides
-decides : (c : tie.Else1) → let a = c .before .before .args in let w = weak first (a .train) (a .g) (a .at) (a .v0) in
-    firstOf (inputs (a .train) (a .g) (a .v) (a .v0) ++ w) ≡ firstOf w
+decides : (c : tie.Else1) → let g = c .before .before in let a = g .before .args in let w = weak first (a .train) (g .gradient-of .result) (a .at) (a .v0) in
+    firstOf (inputs (a .train) (g .gradient-of .result) (a .v) (a .v0) ++ w) ≡ firstOf w
 decides c =
-    let a = c .before .before .args in
-    first-after 0 (inputs (a .train) (a .g) (a .v) (a .v0)) (weak first (a .train) (a .g) (a .at) (a .v0)) (inputs-rising (a .train) (a .g) (a .v) (a .v0)) (passed c)
+    let g = c .before .before in
+    let a = g .before .args in
+    first-after 0 (inputs (a .train) (g .gradient-of .result) (a .v) (a .v0)) (weak first (a .train) (g .gradient-of .result) (a .at) (a .v0))
+    (inputs-rising (a .train) (g .gradient-of .result) (a .v) (a .v0)) (passed c)
+
+gradient-of-requires : tie.Need-gradient-of-requires
+gradient-of-requires c κs = search needs
 
 turned-away-requires : tie.Need-turned-away-requires
 turned-away-requires c κs = search needs
 
 returns : tie.Need-returns
 returns c =
-    let a = c .before .before .args in
+    let g = c .before .before in
+    let a = g .before .args in
     let e = c .before .turned-away .ensures in
-    (c .if1 .taken, first-before (inputs (a .train) (a .g) (a .v) (a .v0)) (weak first (a .train) (a .g) (a .at) (a .v0)) (λ i. omega (arith, c .if1 .taken, e)) ∙ sym e)
+    rw (← gradient-is g)
+    (c .if1 .taken, first-before (inputs (a .train) (g .gradient-of .result) (a .v) (a .v0)) (weak first (a .train) (g .gradient-of .result) (a .at) (a .v0)) (λ i. omega (arith, c .if1 .taken, e)) ∙ sym e)
 
 first-values-requires : tie.Need-first-values-requires
 first-values-requires c κs = search needs
@@ -70,27 +86,31 @@ is-strong-requires c κs = (c .course-of .ensures .small, near (c .before .befor
 returns-2 : tie.Need-returns-2
 returns-2 c =
     let s = c .before in
-    let a = s .before .before .before .before .before .args in
-    let e : strong first (a .train) (a .g) (a .at) (a .v0) ≡ false = sym (strong-says s) ∙ not-true _ (c .if2 .taken) in
-    (lit< tt, decides (s .before .before .before) ∙ rw e)
+    let g = s .before .before .before .before .before in
+    let a = g .before .args in
+    let e : strong first (a .train) (g .gradient-of .result) (a .at) (a .v0) ≡ false = sym (strong-says s) ∙ not-true _ (c .if2 .taken) in
+    rw (← gradient-is g) (lit< tt, decides (s .before .before .before) ∙ rw e)
 
 returns-3 : tie.Need-returns-3
 returns-3 c =
     let s = c .before in
-    let a = s .before .before .before .before .before .args in
+    let g = s .before .before .before .before .before in
+    let a = g .before .args in
     let t = not-false _ (c .if2 .left) in
-    let e : strong first (a .train) (a .g) (a .at) (a .v0) ≡ true = sym (strong-says s) ∙ t in
-    record {
+    let e : strong first (a .train) (g .gradient-of .result) (a .at) (a .v0) ≡ true = sym (strong-says s) ∙ t in
+    rw (← gradient-is g)
+    (record {
       accepted = decides (s .before .before .before) ∙ rw e;
       speeds = fits (s .before .before .before) .speeds;
       course = course (s .before);
       enough = leb-true _ _ (sym (s .is-strong .ensures) ∙ t);
-    }
+    })
 
 pub start-spec : {M : Type 1} → statement M
 start-spec =
     tie.close
     (tie.spec
+    gradient-of-requires
     turned-away-requires
     returns
     first-values-requires

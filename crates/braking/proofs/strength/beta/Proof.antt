@@ -2,7 +2,7 @@
 use Prim.Native.Nat.{_*_, _≤_}
 use native.Mathlib.Nat.{le-trans}
 use native.Mathlib.Omega.{arith}
-use Rattle.braking.specs.Plan.{v9, betaOf, speedMost}
+use Rattle.braking.specs.Plan.{betaOf, speedMost}
 use Rattle.braking.proofs.Bounds.{slope-way, speed-small}
 use Rattle.braking.proofs.strength.beta.Statement.{statement}
 use Rattle.braking.proofs.strength.beta.Tie as tie
