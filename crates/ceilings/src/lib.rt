@@ -18,7 +18,8 @@ pub struct Limits {
     pub ebi: Ceiling,
 }
 
-// How far a ceiling lies above the permitted speed, in 120ths: `least` up to 110 km/h, then `growth` more for each km/h up to `end`.
+// How far a ceiling lies above the permitted speed, in 120ths of a km/h: `least` up to 110 km/h, then `growth` more for each
+// km/h up to `end`.
 pub struct Band {
     pub least: u32,
     pub growth: u32,

@@ -50,6 +50,7 @@ pub fn motion_at(c: Course, v: Kmh, v0: Kmh) -> Motion
     // as a u32: the product then leaves out the upper half
     let unit = (50000 * s.unit) as u32;
     let part = wide::times(square, unit as u64);
+    // 81·10²⁰ a, in one product
     let scale = wide::product(810 * a, 10000000000000000000);
     Motion {
         a: a,

@@ -41,6 +41,7 @@ abbrev pub speeds : Train → Kmh → ℕ
 speeds t v0 = t .top .0 + 1 - v0 .0
 
 module _ (k : Coefficients) (t : Train) (g : Gradient) where
+  -- refusal 10
   abbrev pub weak : Kmh → Kmh → List Refusal
   weak v v0 = not (strong k t g v v0) gives 10 ∷ []
 
