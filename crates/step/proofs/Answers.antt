@@ -7,6 +7,8 @@ use native.Mathlib.Nat.{le-refl, le-add-right}
 use borrow.Author.Tests.{le-leb, leb-true, ltb-false, lt-ltb, le-ltb, ne-eqb}
 use lib.Dec.{ltb, lit≤, lit<}
 use lib.ListN.{length, drop}
+use Rattle.lists.specs.Counted.{upTo}
+use Rattle.lists.proofs.Places.{same-places, place-at}
 use Rattle.train.specs.declared.Kmh.{Kmh}
 use Rattle.train.specs.declared.Train.{Train}
 use Rattle.train.specs.declared.Gradient.{Gradient}
@@ -26,9 +28,8 @@ use Rattle.braking.proofs.Exact.{strong-is}
 use Rattle.curve.proofs.Exact.{distance-is, distance-least}
 use Rattle.braking.proofs.Rising.{strong-stays}
 use Rattle.step.specs.declared.Written.{Written}
-use Rattle.step.specs.Answer.{inputs, refused, weak, stepRefusals, stepOf, StepAnswers, upTo, speeds, rowRefusals, rowAnswer, rowAfter, RowAnswers}
+use Rattle.step.specs.Answer.{inputs, refused, weak, stepRefusals, stepOf, StepAnswers, speeds, rowRefusals, rowAnswer, rowAfter, RowAnswers}
 use Rattle.step.specs.Begin.{placesOf}
-use Rattle.step.proofs.Places.{same-places, place-at}
 
 -- what the inputs do not turn away
 pub record Accepted (t : Train) (g : Gradient) (v v0 : Kmh) : Type 0 where
@@ -123,5 +124,5 @@ module _ (t : Train) (g : Gradient) (x : Curve) (v0 : Kmh) (lent : List ℕ) whe
           record {
             answer = rw r;
             memory = rw r p;
-            least = λ i h. rw (p, place-at exactly n i (drop n lent) h) (distance-least first t g c is (kmh (v0 .0 + i)) v0 (le-add-right (v0 .0) i) (enough-on i) x);
+            least = λ i h. rw (p, place-at exactly n i 0 (drop n lent) h) (distance-least first t g c is (kmh (v0 .0 + i)) v0 (le-add-right (v0 .0) i) (enough-on i) x);
           }

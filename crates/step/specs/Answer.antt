@@ -2,9 +2,10 @@
 use mathlib.Core.Path.{_≡_}
 use mathlib.Core.Bool.{not, cond}
 use mathlib.Core.List.{List, [], _∷_, _++_}
-use Prim.Native.Nat.{ℕ, zero, suc, _+_, _-_, _<_}
+use Prim.Native.Nat.{ℕ, _+_, _-_, _<_}
 use lib.Dec.{ltb, eqb}
 use lib.ListN.{length, drop, getD}
+use Rattle.lists.specs.Counted.{upTo}
 use Rattle.exact.specs.Fraction.{whole, _*q_, Least}
 use Rattle.train.specs.declared.Kmh.{Kmh}
 use Rattle.train.specs.declared.Train.{Train}
@@ -30,11 +31,6 @@ inputs t g v v0 = trainRefusals t ++ (speedRefusals v v0 ++ gradientRefusals g)
 -- a refusal, with zeros
 abbrev pub refused : ℕ → Distances
 refused n = record { refusal = n; ebi = record { 0 = 0 }; sbi = record { 0 = 0 }; w = record { 0 = 0 }; p = record { 0 = 0 } }
-
--- f 0, f 1, .., n of them
-unfoldable pub upTo : (ℕ → ℕ) → ℕ → List ℕ
-upTo f zero = []
-upTo f (suc n) = upTo f n ++ (f n ∷ [])
 
 -- how many speeds from V0 to the top speed
 abbrev pub speeds : Train → Kmh → ℕ

@@ -10,8 +10,8 @@ use Rattle.braking.specs.Plan.{Small, Near, Enough}
 use Rattle.curve.specs.Plan.{placeOf}
 use Rattle.curve.proofs.Bounds.{moving}
 use Rattle.curve.proofs.Exact.{place-is}
-use Rattle.step.specs.Answer.{upTo}
-use Rattle.step.proofs.Places.{longer, filled}
+use Rattle.lists.specs.Counted.{upTo}
+use Rattle.lists.proofs.Places.{longer, filled}
 use Rattle.step.proofs.fill.Statement.{statement}
 use Rattle.step.proofs.fill.Tie as tie
 

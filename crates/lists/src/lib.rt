@@ -1,0 +1,1 @@
+// Lists by their places: definitions in specs/, laws in proofs/, no code.

@@ -1,0 +1,75 @@
+// Reading a line sheet: a stretch or a signal by its number, and the reading mark. Document 01, "Line sheet".
+ghost use mathlib.Core.Path.{_≡_};
+ghost use Rattle.reading.specs.Answer.{stretchOf, signalOf};
+use train::Metre;
+
+pub mod fields;
+pub mod mark;
+
+// A stretch: its start and its gradient in per mille, positive uphill; or a refusal and zeros.
+#[repr(C)]
+pub struct Stretch {
+    pub refusal: u32,
+    pub start: Metre,
+    pub gradient: i32,
+}
+
+// A signal: its place and its overlap; or a refusal and zeros.
+#[repr(C)]
+pub struct Signal {
+    pub refusal: u32,
+    pub place: Metre,
+    pub overlap: Metre,
+}
+
+// The stretch of that number, from 0.
+pub fn read_stretch(s: &[u8], number: u32) -> Stretch
+    ensures { λ r. ⌜ r ≡ stretchOf (now (s .entry)) number ⌝ }
+{
+    if !sheet::check::accepts(s) {
+        return Stretch {
+            refusal: 7,
+            start: Metre(0),
+            gradient: 0,
+        };
+    }
+    if number >= fields::stretches(s) {
+        return Stretch {
+            refusal: 8,
+            start: Metre(0),
+            gradient: 0,
+        };
+    }
+    let k = number as usize;
+    Stretch {
+        refusal: 0,
+        start: fields::start(s, k),
+        gradient: fields::gradient(s, k),
+    }
+}
+
+// The signal of that number, from 0.
+pub fn read_signal(s: &[u8], number: u32) -> Signal
+    ensures { λ r. ⌜ r ≡ signalOf (now (s .entry)) number ⌝ }
+{
+    if !sheet::check::accepts(s) {
+        return Signal {
+            refusal: 7,
+            place: Metre(0),
+            overlap: Metre(0),
+        };
+    }
+    if number >= fields::signals(s) {
+        return Signal {
+            refusal: 8,
+            place: Metre(0),
+            overlap: Metre(0),
+        };
+    }
+    let k = number as usize;
+    Signal {
+        refusal: 0,
+        place: fields::place(s, k),
+        overlap: fields::overlap(s, k),
+    }
+}

@@ -1,0 +1,4 @@
+pub mod Bytes
+pub mod Line
+pub mod Sheet
+pub mod Records

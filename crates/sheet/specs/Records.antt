@@ -1,0 +1,47 @@
+-- The rules of a table of records as the code meets them, one record at a time; nobody has to believe this: `kept-of` and `keeps-of` (proofs/Kept.antt) tie it to the paper's rules.
+use mathlib.Core.Path.{_≡_}
+use mathlib.Core.Bool.{Bool, true, false}
+use mathlib.Core.List.{List}
+use Prim.Native.Nat.{ℕ, zero, suc, _+_, _≤_, _<_}
+use lib.ListN.{length}
+use Rattle.train.specs.Gradient.{gradientOf, Moderate}
+use Rattle.sheet.specs.declared.Table.{Table}
+use Rattle.sheet.specs.declared.Table.the-variants.{Stretches, Signals}
+use Rattle.sheet.specs.Bytes.{u16At, u32At, signed}
+use Rattle.sheet.specs.Line.{mostStretches, mostSignals, farthestEnd}
+use Rattle.sheet.specs.Sheet.{stretchOffset, signalOffset, sheetLength}
+
+-- b says whether P holds
+pub record Decides (b : Bool) (P : Type 0) : Type 0 where
+  pub yes : b ≡ true → P
+  pub no : b ≡ false → P → ⊥
+
+-- the header's offsets and lengths are right
+pub record Headed (s : List ℕ) : Type 0 where
+  pub room : 20 ≤ length s
+  pub stretches : u32At s 4 ≡ stretchOffset
+  pub signals : u32At s 8 ≡ signalOffset (u16At s 0)
+  pub whole : u32At s 12 ≡ sheetLength (u16At s 0) (u16At s 2)
+  pub lent : length s ≡ sheetLength (u16At s 0) (u16At s 2)
+
+pub record Counts (n m end : ℕ) : Type 0 where
+  pub some : 1 ≤ n
+  pub stretches : n ≤ mostStretches
+  pub signals : m ≤ mostSignals
+  pub begins : 1 ≤ end
+  pub ends : end ≤ farthestEnd
+
+-- what a record of x metres and the two bytes y keeps by itself
+abbrev pub Keeps : Table → ℕ → ℕ → ℕ → Type 0
+Keeps Stretches end x y = (x < end) × Moderate (gradientOf (signed y))
+Keeps Signals end x y = (x < end) × (x + y ≤ end)
+
+-- the first n rise strictly, and each keeps its rule
+pub record Along (x : ℕ → ℕ) (Rule : ℕ → Type 0) (n : ℕ) : Type 0 where
+  pub rising : (k : ℕ) → suc k < n → x k < x (suc k)
+  pub each : (k : ℕ) → k < n → Rule k
+
+-- the least that the k-th may be
+unfoldable pub lowest : (ℕ → ℕ) → ℕ → ℕ
+lowest x zero = 0
+lowest x (suc k) = suc (x k)
