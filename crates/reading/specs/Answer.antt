@@ -1,13 +1,15 @@
 -- Document 01, "Line sheet" and "What is turned away": what a stretch or a signal by number and a move of the mark answer.
+use mathlib.Core.Path.{_≡_}
 use mathlib.Core.Bool.{not, cond}
 use mathlib.Core.List.{List, [], _∷_}
-use Prim.Native.Nat.{ℕ, _+_}
+use Prim.Native.Nat.{ℕ, zero, suc, _+_}
 use lib.Dec.{leb, ltb, eqb}
 use lib.IntN.{pos}
 use Rattle.train.specs.Units.{metres}
 use Rattle.train.specs.Refusal.{Refusal, _gives_, firstOf}
 use Rattle.sheet.specs.Line.{Line}
 use Rattle.sheet.specs.Sheet.{lineOf, accepted}
+use Rattle.sheet.specs.Fields.{sheetOf, fieldsOf}
 use Rattle.reading.specs.declared.Stretch.{Stretch}
 use Rattle.reading.specs.declared.Signal.{Signal}
 use Rattle.reading.specs.declared.mark.Mark.{Mark}
@@ -43,3 +45,12 @@ stepOf l m =
 
 unfoldable pub moveOf : List ℕ → Mark → Move
 moveOf s m = cond (accepted s) (stepOf (lineOf s) m) (record { refusal = 7; end = 0; start = metres 0; gradient = pos 0; mark = fresh })
+
+-- what a read promises beside its answer: the fields of a sheet that is read write its bytes
+pub record Again (s : List ℕ) (refusal : ℕ) : Type 0 where
+  pub again : refusal ≡ 0 → sheetOf (fieldsOf s) ≡ s
+
+-- the mark after that many moves from a fresh one
+unfoldable pub afterMoves : List ℕ → ℕ → Mark
+afterMoves s zero = fresh
+afterMoves s (suc k) = moveOf s (afterMoves s k) .mark

@@ -1,6 +1,6 @@
 // Reading a line sheet: a stretch or a signal by its number, and the reading mark. Document 01, "Line sheet".
 ghost use mathlib.Core.Path.{_≡_};
-ghost use Rattle.reading.specs.Answer.{stretchOf, signalOf};
+ghost use Rattle.reading.specs.Answer.{stretchOf, signalOf, Again};
 use train::Metre;
 
 pub mod fields;
@@ -24,7 +24,7 @@ pub struct Signal {
 
 // The stretch of that number, from 0.
 pub fn read_stretch(s: &[u8], number: u32) -> Stretch
-    ensures { λ r. ⌜ r ≡ stretchOf (now (s .entry)) number ⌝ }
+    ensures { λ r. ⌜ (r ≡ stretchOf (now (s .entry)) number) × Again (now (s .entry)) (r .refusal) ⌝ }
 {
     if !sheet::check::accepts(s) {
         return Stretch {
@@ -50,7 +50,7 @@ pub fn read_stretch(s: &[u8], number: u32) -> Stretch
 
 // The signal of that number, from 0.
 pub fn read_signal(s: &[u8], number: u32) -> Signal
-    ensures { λ r. ⌜ r ≡ signalOf (now (s .entry)) number ⌝ }
+    ensures { λ r. ⌜ (r ≡ signalOf (now (s .entry)) number) × Again (now (s .entry)) (r .refusal) ⌝ }
 {
     if !sheet::check::accepts(s) {
         return Signal {

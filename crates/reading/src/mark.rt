@@ -2,7 +2,7 @@
 ghost use mathlib.Core.Path.{_≡_};
 ghost use mathlib.Core.Bool.{true};
 ghost use Rattle.sheet.specs.Sheet.{lineOf, accepted};
-ghost use Rattle.reading.specs.Answer.{fresh, stepOf, moveOf};
+ghost use Rattle.reading.specs.Answer.{fresh, stepOf, moveOf, Again};
 use super::fields;
 use train::Metre;
 
@@ -57,7 +57,7 @@ impl Mark {
 
     // A move along any bytes.
     pub fn moved(self, s: &[u8]) -> Move
-        ensures { λ r. ⌜ r ≡ moveOf (now (s .entry)) self ⌝ }
+        ensures { λ r. ⌜ (r ≡ moveOf (now (s .entry)) self) × Again (now (s .entry)) (r .refusal) ⌝ }
     {
         if !sheet::check::accepts(s) {
             return Move {

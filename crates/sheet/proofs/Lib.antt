@@ -1,3 +1,5 @@
 pub mod Complement
+pub mod Parts
 pub mod Deciding
 pub mod Kept
+pub mod RoundTrip

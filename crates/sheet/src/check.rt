@@ -4,7 +4,8 @@ ghost use Prim.Native.Nat.{_+_, _*_, _≤_, _<_};
 ghost use lib.ListN.{length};
 ghost use Rattle.sheet.specs.Bytes.{u16At, u32At};
 ghost use Rattle.sheet.specs.Line.{farthestEnd};
-ghost use Rattle.sheet.specs.Sheet.{lineOf, keeps, accepted};
+ghost use Rattle.sheet.specs.Sheet.{lineOf, keeps};
+ghost use Rattle.sheet.specs.Fields.{Checked};
 ghost use Rattle.sheet.specs.Records.{Decides, Headed, Counts, Keeps, Along};
 use super::Table;
 use super::bytes::u16_at;
@@ -128,9 +129,9 @@ fn fields_keep(s: &[u8]) -> bool
     records_keep(Table::Signals, s, 20 + 6 * n, m, end)
 }
 
-// Every rule of the sheet.
+// Every rule of the sheet. What is accepted is, byte for byte, what its fields write.
 pub fn accepts(s: &[u8]) -> bool
-    ensures { λ r. ⌜ r ≡ accepted (now (s .entry)) ⌝ }
+    ensures { λ r. ⌜ Checked (now (s .entry)) r ⌝ }
 {
     if !header_keeps(s) {
         return false;

@@ -1,7 +1,11 @@
 -- `accepts`: the header, then the fields.
 use borrow.Author.Needs.{needs}
 use borrow.Author.Tests.{not-true, not-false}
+use lib.Dec.{T}
+use mathlib.Core.Path.{subst}
 use mathlib.Core.Path.{sym, _∙_}
+use Rattle.sheet.proofs.RoundTrip.{read-write}
+use Rattle.lists.proofs.Holding.{no}
 use Rattle.lists.proofs.Holding.{refuted}
 use Rattle.sheet.proofs.Kept.{headed-of, accepted-is}
 use Rattle.sheet.proofs.check.accepts.Statement.{statement}
@@ -11,13 +15,16 @@ header-keeps-requires : tie.Need-header-keeps-requires
 header-keeps-requires c κs = search needs
 
 returns : tie.Need-returns
-returns c = sym (refuted _ (λ k. c .before .header-keeps .ensures .no (not-true _ (c .if1 .taken)) (headed-of _ k .0)))
+returns c = record { answer = sym (refuted _ (λ k. c .before .header-keeps .ensures .no (not-true _ (c .if1 .taken)) (headed-of _ k .0))); again = λ e. no e }
 
 fields-keep-requires : tie.Need-fields-keep-requires
 fields-keep-requires c κs = c .before .header-keeps .ensures .yes (not-false _ (c .if1 .left))
 
 returns-2 : tie.Need-returns-2
-returns-2 c = c .fields-keep .ensures ∙ sym (accepted-is _ (c .before .before .header-keeps .ensures .yes (not-false _ (c .before .if1 .left))))
+returns-2 c =
+    let h = c .before .before .header-keeps .ensures .yes (not-false _ (c .before .if1 .left)) in
+    let e = c .fields-keep .ensures ∙ sym (accepted-is _ h) in
+    record { answer = e; again = λ t. read-write _ (λ i. c .before .before .before .shared-slice-known .given i .fits) (sym e ∙ t) }
 
 pub accepts-spec : {M : Type 1} → statement M
 accepts-spec = tie.close (tie.spec header-keeps-requires returns fields-keep-requires returns-2)
