@@ -11,11 +11,11 @@ ghost use Rattle.approach.specs.Entered.{trainOf};
 use ceilings::Limits;
 use curve::Curve;
 use step::Distances;
-use step::Written;
 use train::BrakeType;
 use train::Kmh;
 use train::Metre;
 use train::Train;
+use train::Written;
 
 // A train as C has it: the braked weight percentage, the length in metres, the top speed in km/h.
 #[repr(C)]

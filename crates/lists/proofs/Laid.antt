@@ -42,6 +42,16 @@ pub set-put : (p x : ℕ) (l : List ℕ) → p < length l → set l p x ≡ put 
 unfolding put
 set-put p x l h = set-split l p x h ∙ sym (append-snoc (take p l) x (drop (suc p) l)) ∙ ap (λ (k : ℕ). take p l ++ (x ∷ []) ++ drop k l) (let z : suc p ≡ p + 1 = omega arith in z)
 
+pub two-stores : (p x y : ℕ) (l : List ℕ) → p + 2 ≤ length l → set (set l p x) (p + 1) y ≡ put p (x ∷ y ∷ []) l
+two-stores p x y l h =
+    ap (λ (m : List ℕ). set m (p + 1) y) (set-put p x l (omega arith))
+    ∙ set-put (p + 1) y (put p (x ∷ []) l) (rw (length-put p (x ∷ []) l (omega arith)) (omega arith))
+    ∙ put-put p (x ∷ []) (y ∷ []) l (omega arith)
+
+-- one list behind another, one call after another
+pub put-then : (p q : ℕ) (xs ys l : List ℕ) {m n : List ℕ} → m ≡ put p xs l → n ≡ put q ys m → p + length xs ≡ q → q + length ys ≤ length l → n ≡ put p (xs ++ ys) l
+put-then p q xs ys l a b e h = b ∙ ap (put q ys) a ∙ rw (← e) (put-put p xs ys l (rw e h))
+
 -- from the front on: the list, and what lies behind it
 pub put-front : (xs l : List ℕ) → put 0 xs l ≡ xs ++ drop (length xs) l
 unfolding put

@@ -1,5 +1,5 @@
 -- The mark along an accepted sheet: n moves from a fresh one give the stretches 0 to n - 1 in order, then "end" for ever.
-use mathlib.Core.Path.{_≡_, refl, sym, ap, _∙_}
+use mathlib.Core.Path.{_≡_, refl, ap, _∙_}
 use mathlib.Core.Bool.{Bool, true, false}
 use mathlib.Core.List.{List}
 use Prim.Native.Nat.{ℕ, zero, suc, _+_, _≤_, _<_}
@@ -12,7 +12,7 @@ use Rattle.train.specs.Units.{metres}
 use Rattle.sheet.specs.Sheet.{lineOf, accepted}
 use Rattle.reading.specs.declared.mark.Mark.{Mark}
 use Rattle.reading.specs.declared.mark.Move.{Move}
-use Rattle.reading.specs.Answer.{fresh, moveOf, afterMoves}
+use Rattle.reading.specs.Answer.{moveOf, afterMoves}
 
 module _ (s : List ℕ) (sheet : accepted s ≡ true) where
   abbrev at : ℕ → Mark

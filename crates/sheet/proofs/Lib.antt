@@ -3,3 +3,4 @@ pub mod Parts
 pub mod Deciding
 pub mod Kept
 pub mod RoundTrip
+pub mod Writable

@@ -2,7 +2,7 @@
 use mathlib.Core.Path.{_≡_, refl, sym, ap, _∙_, subst}
 use mathlib.Core.Bool.{true}
 use mathlib.Core.List.{List, _++_}
-use Prim.Native.Nat.{ℕ, zero, suc, _+_, _*_, _/_, _%_, _≤_, _<_}
+use Prim.Native.Nat.{ℕ, zero, suc, _+_, _*_, _<_}
 use native.Mathlib.Omega.{arith}
 use lib.IntN.{ℤ, pos, negsuc}
 use lib.ListN.{length, getD, length-append}
@@ -65,24 +65,27 @@ moderate-fits : (z : ℤ) → Moderate (gradientOf z) → SFits w16 z
 moderate-fits (pos n) m = record { sfits = omega (arith, m .rise) }
 moderate-fits (negsuc n) m = record { sfits = omega (arith, m .fall) }
 
+pub header-length : (n m end : ℕ) → length (header n m end) ≡ 20
+unfolding bytes2 bytes4
+header-length n m end = refl
+
 -- a line's bytes: its header is 20 long, its tables follow
 module _ (l : Line) where
+  abbrev headerBytes : List ℕ
+  headerBytes = header (l .stretches) (l .signals) (l .end)
+
   abbrev stretchTable : List ℕ
   stretchTable = records (l .start) (λ k. complement (l .gradient k)) (l .stretches)
 
   abbrev signalTable : List ℕ
   signalTable = records (l .place) (l .overlap) (l .signals)
 
-  header-length : length (header l) ≡ 20
-  unfolding bytes2 bytes4
-  header-length = refl
-
-  front-length : length (header l ++ stretchTable) ≡ signalOffset (l .stretches)
-  front-length = length-append (header l) stretchTable ∙ rw (header-length, records-length (l .start) (λ k. complement (l .gradient k)) (l .stretches)) refl
+  front-length : length (headerBytes ++ stretchTable) ≡ signalOffset (l .stretches)
+  front-length = length-append headerBytes stretchTable ∙ rw (header-length (l .stretches) (l .signals) (l .end), records-length (l .start) (λ k. complement (l .gradient k)) (l .stretches)) refl
 
   pub bytes-length : length (bytesOf l) ≡ sheetLength (l .stretches) (l .signals)
   unfolding bytesOf
-  bytes-length = length-append (header l ++ stretchTable) signalTable ∙ rw (front-length, records-length (l .place) (l .overlap) (l .signals)) refl
+  bytes-length = length-append (headerBytes ++ stretchTable) signalTable ∙ rw (front-length, records-length (l .place) (l .overlap) (l .signals)) refl
 
   -- the header read back
   count-back : u16At (bytesOf l) 0 ≡ l .stretches
@@ -112,33 +115,33 @@ module _ (l : Line) where
   start-back : (k : ℕ) → k < l .stretches → u32At (bytesOf l) (stretchOffset + 6 * k) ≡ l .start k
   unfolding bytesOf
   start-back k h =
-      u32-before (header l ++ stretchTable) signalTable (20 + 6 * k) (rw front-length (omega arith))
-      ∙ ap (λ (n : ℕ). u32At (header l ++ stretchTable) (n + 6 * k)) (sym header-length)
-      ∙ u32-behind (header l) stretchTable (6 * k)
+      u32-before (headerBytes ++ stretchTable) signalTable (20 + 6 * k) (rw front-length (omega arith))
+      ∙ ap (λ (n : ℕ). u32At (headerBytes ++ stretchTable) (n + 6 * k)) (sym (header-length (l .stretches) (l .signals) (l .end)))
+      ∙ u32-behind headerBytes stretchTable (6 * k)
       ∙ first-back _ _ (l .stretches) k h
 
   bits-back : (k : ℕ) → k < l .stretches → u16At (bytesOf l) (stretchOffset + 6 * k + 4) ≡ complement (l .gradient k)
   unfolding bytesOf
   bits-back k h =
-      u16-before (header l ++ stretchTable) signalTable (20 + 6 * k + 4) (rw front-length (omega arith))
-      ∙ ap (λ (n : ℕ). u16At (header l ++ stretchTable) n) (let z : 20 + 6 * k + 4 ≡ 20 + (6 * k + 4) = omega arith in z)
-      ∙ ap (λ (n : ℕ). u16At (header l ++ stretchTable) (n + (6 * k + 4))) (sym header-length)
-      ∙ u16-behind (header l) stretchTable (6 * k + 4)
+      u16-before (headerBytes ++ stretchTable) signalTable (20 + 6 * k + 4) (rw front-length (omega arith))
+      ∙ ap (λ (n : ℕ). u16At (headerBytes ++ stretchTable) n) (let z : 20 + 6 * k + 4 ≡ 20 + (6 * k + 4) = omega arith in z)
+      ∙ ap (λ (n : ℕ). u16At (headerBytes ++ stretchTable) (n + (6 * k + 4))) (sym (header-length (l .stretches) (l .signals) (l .end)))
+      ∙ u16-behind headerBytes stretchTable (6 * k + 4)
       ∙ second-back (l .start) (λ k. complement (l .gradient k)) (l .stretches) k h
 
   place-back : (k : ℕ) → k < l .signals → u32At (bytesOf l) (signalOffset (l .stretches) + 6 * k) ≡ l .place k
   unfolding bytesOf
   place-back k h =
-      ap (λ (n : ℕ). u32At (header l ++ stretchTable ++ signalTable) (n + 6 * k)) (sym front-length)
-      ∙ u32-behind (header l ++ stretchTable) signalTable (6 * k)
+      ap (λ (n : ℕ). u32At (headerBytes ++ stretchTable ++ signalTable) (n + 6 * k)) (sym front-length)
+      ∙ u32-behind (headerBytes ++ stretchTable) signalTable (6 * k)
       ∙ first-back _ _ (l .signals) k h
 
   overlap-back : (k : ℕ) → k < l .signals → u16At (bytesOf l) (signalOffset (l .stretches) + 6 * k + 4) ≡ l .overlap k
   unfolding bytesOf
   overlap-back k h =
-      ap (λ (n : ℕ). u16At (header l ++ stretchTable ++ signalTable) (n + 6 * k + 4)) (sym front-length)
-      ∙ ap (λ (n : ℕ). u16At (header l ++ stretchTable ++ signalTable) n) (let z : length (header l ++ stretchTable) + 6 * k + 4 ≡ length (header l ++ stretchTable) + (6 * k + 4) = omega arith in z)
-      ∙ u16-behind (header l ++ stretchTable) signalTable (6 * k + 4)
+      ap (λ (n : ℕ). u16At (headerBytes ++ stretchTable ++ signalTable) (n + 6 * k + 4)) (sym front-length)
+      ∙ ap (λ (n : ℕ). u16At (headerBytes ++ stretchTable ++ signalTable) n) (let z : length (headerBytes ++ stretchTable) + 6 * k + 4 ≡ length (headerBytes ++ stretchTable) + (6 * k + 4) = omega arith in z)
+      ∙ u16-behind (headerBytes ++ stretchTable) signalTable (6 * k + 4)
       ∙ second-back (l .place) (l .overlap) (l .signals) k h
 
   -- a line whose gradients fit two bytes is read back from its bytes
@@ -177,7 +180,7 @@ module _ (s : List ℕ) (bytes : (i : ℕ) → getD s i 0 < 256) where
   abbrev numbers : ℕ → ℕ → ℕ → ℕ → ℕ → ℕ → List ℕ
   numbers a b c d e f = bytes2 a ++ bytes2 b ++ bytes4 c ++ bytes4 d ++ bytes4 e ++ bytes4 f
 
-  header-lies : Headed s → header (lineOf s) ≡ part s 0 20
+  header-lies : Headed s → header (u16At s 0) (u16At s 2) (u32At s 16) ≡ part s 0 20
   header-lies h =
       let r = h .room in
       let n = u16At s 0 in

@@ -31,7 +31,7 @@ listed f =
     }
 
 -- the paired lists are as long as each other, and every rule is kept
-abbrev pub writable : Fields → Bool
+unfoldable pub writable : Fields → Bool
 writable f = eqb (length (f .gradients)) (length (f .starts)) && (eqb (length (f .overlaps)) (length (f .places)) && keeps (listed f))
 
 -- the sheet that they write, and the fields that a sheet has

@@ -46,13 +46,15 @@ unfoldable pub accepted : List ℕ → Bool
 accepted s = allHold (headerRules s ++ (keeps (lineOf s) ∷ []))
 
 -- the bytes from the fields
-abbrev pub header : Line → List ℕ
-header l =
-    bytes2 (l .stretches) ++ bytes2 (l .signals) ++ bytes4 stretchOffset ++ bytes4 (signalOffset (l .stretches)) ++ bytes4 (sheetLength (l .stretches) (l .signals)) ++ bytes4 (l .end)
+abbrev pub header : ℕ → ℕ → ℕ → List ℕ
+header n m end = bytes2 n ++ bytes2 m ++ bytes4 stretchOffset ++ bytes4 (signalOffset n) ++ bytes4 (sheetLength n m) ++ bytes4 end
 
 unfoldable pub records : (ℕ → ℕ) → (ℕ → ℕ) → ℕ → List ℕ
 records first second zero = []
 records first second (suc k) = records first second k ++ (bytes4 (first k) ++ bytes2 (second k))
 
 unfoldable pub bytesOf : Line → List ℕ
-bytesOf l = header l ++ records (l .start) (λ k. complement (l .gradient k)) (l .stretches) ++ records (l .place) (l .overlap) (l .signals)
+bytesOf l =
+    header (l .stretches) (l .signals) (l .end)
+    ++ records (l .start) (λ k. complement (l .gradient k)) (l .stretches)
+    ++ records (l .place) (l .overlap) (l .signals)

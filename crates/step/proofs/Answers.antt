@@ -11,6 +11,7 @@ use Rattle.lists.specs.Counted.{upTo}
 use Rattle.lists.proofs.Places.{same-places, place-at}
 use Rattle.train.specs.declared.Kmh.{Kmh}
 use Rattle.train.specs.declared.Train.{Train}
+use Rattle.train.specs.declared.Written.{Written}
 use Rattle.train.specs.declared.Gradient.{Gradient}
 use Rattle.train.specs.Units.{kmh}
 use Rattle.train.specs.Coefficients.{first}
@@ -27,7 +28,6 @@ use Rattle.braking.specs.Agreement.{IsCourse}
 use Rattle.braking.proofs.Exact.{strong-is}
 use Rattle.curve.proofs.Exact.{distance-is, distance-least}
 use Rattle.braking.proofs.Rising.{strong-stays}
-use Rattle.step.specs.declared.Written.{Written}
 use Rattle.step.specs.Answer.{inputs, refused, weak, stepRefusals, stepOf, StepAnswers, speeds, rowRefusals, rowAnswer, rowAfter, RowAnswers}
 use Rattle.step.specs.Begin.{placesOf}
 

@@ -9,6 +9,7 @@ use Rattle.lists.specs.Counted.{upTo}
 use Rattle.exact.specs.Fraction.{whole, _*q_, Least}
 use Rattle.train.specs.declared.Kmh.{Kmh}
 use Rattle.train.specs.declared.Train.{Train}
+use Rattle.train.specs.declared.Written.{Written}
 use Rattle.train.specs.declared.Gradient.{Gradient}
 use Rattle.train.specs.declared.Coefficients.{Coefficients}
 use Rattle.train.specs.Units.{kmh}
@@ -18,7 +19,6 @@ use Rattle.curve.specs.declared.Curve.the-variants.{Ebi, Sbi, W, P}
 use Rattle.braking.specs.Braking.{strong}
 use Rattle.curve.specs.Step.{formula, distance}
 use Rattle.step.specs.declared.Distances.{Distances}
-use Rattle.step.specs.declared.Written.{Written}
 
 -- V and V0 of 0 to 330, V0 at most V
 abbrev pub speedRefusals : Kmh → Kmh → List Refusal

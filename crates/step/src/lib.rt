@@ -17,6 +17,7 @@ use train::Gradient;
 use train::Kmh;
 use train::Millimetre;
 use train::Train;
+use train::Written;
 
 // The four distances, or a refusal and zeros.
 #[repr(C)]
@@ -26,13 +27,6 @@ pub struct Distances {
     pub sbi: Millimetre,
     pub w: Millimetre,
     pub p: Millimetre,
-}
-
-// How many places were written, or a refusal and 0.
-#[repr(C)]
-pub struct Written {
-    pub refusal: u32,
-    pub length: u32,
 }
 
 // A refusal, or what the speeds do not change.

@@ -10,11 +10,19 @@ pub mod slope;
 pub struct Kmh(pub u32);
 
 // A place or a length in metres.
+#[repr(C)]
 pub struct Metre(pub u32);
 
 // A distance in millimetres.
 #[repr(C)]
 pub struct Millimetre(pub u32);
+
+// What a call that writes answers: how many places of the lent list it has written, or a refusal and 0.
+#[repr(C)]
+pub struct Written {
+    pub refusal: u32,
+    pub length: u32,
+}
 
 pub enum BrakeType {
     Passenger,

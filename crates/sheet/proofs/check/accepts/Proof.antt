@@ -1,12 +1,9 @@
 -- `accepts`: the header, then the fields.
 use borrow.Author.Needs.{needs}
 use borrow.Author.Tests.{not-true, not-false}
-use lib.Dec.{T}
-use mathlib.Core.Path.{subst}
 use mathlib.Core.Path.{sym, _∙_}
 use Rattle.sheet.proofs.RoundTrip.{read-write}
-use Rattle.lists.proofs.Holding.{no}
-use Rattle.lists.proofs.Holding.{refuted}
+use Rattle.lists.proofs.Holding.{no, refuted}
 use Rattle.sheet.proofs.Kept.{headed-of, accepted-is}
 use Rattle.sheet.proofs.check.accepts.Statement.{statement}
 use Rattle.sheet.proofs.check.accepts.Tie as tie

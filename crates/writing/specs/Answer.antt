@@ -1,0 +1,33 @@
+-- Document 01, "Line sheet" and "What is turned away": what the writer answers, and the lent buffer afterwards.
+use mathlib.Core.Path.{_≡_}
+use mathlib.Core.Bool.{true, not, cond}
+use mathlib.Core.List.{List, [], _∷_, _++_}
+use Prim.Native.Nat.{ℕ}
+use lib.Dec.{ltb, eqb}
+use lib.ListN.{length, take, drop}
+use Rattle.train.specs.declared.Written.{Written}
+use Rattle.train.specs.Refusal.{Refusal, _gives_, firstOf}
+use Rattle.sheet.specs.Sheet.{sheetLength, accepted}
+use Rattle.sheet.specs.Fields.{Fields, writable, sheetOf, fieldsOf}
+
+module _ (f : Fields) where
+  abbrev pub size : ℕ
+  size = sheetLength (length (f .starts)) (length (f .places))
+
+  -- unequal paired lists or a rule broken, then a buffer too short
+  abbrev pub writeRefusals : ℕ → List Refusal
+  writeRefusals room = not (writable f) gives 7 ∷ ltb room size gives 11 ∷ []
+
+  unfoldable pub writeOf : ℕ → Written
+  writeOf room = cond (eqb (firstOf (writeRefusals room)) 0) (record { refusal = 0; length = size }) (record { refusal = firstOf (writeRefusals room); length = 0 })
+
+  -- the sheet, and behind it the rest as it was; a refusal leaves all
+  unfoldable pub bufferAfter : List ℕ → List ℕ
+  bufferAfter lent = cond (eqb (firstOf (writeRefusals (length lent))) 0) (sheetOf f ++ drop size lent) lent
+
+  -- what the writer promises: its answer, the whole buffer afterwards, and that what was written is a sheet which reads back as its fields
+  pub record Writes (lent : List ℕ) (r : Written) (after : List ℕ) : Type 0 where
+    pub answer : r ≡ writeOf (length lent)
+    pub memory : after ≡ bufferAfter lent
+    pub sheet : r .refusal ≡ 0 → accepted (take (r .length) after) ≡ true
+    pub back : r .refusal ≡ 0 → fieldsOf (take (r .length) after) ≡ f

@@ -1,0 +1,76 @@
+// The fields as the caller's lists, and whether they keep the sheet's rules.
+ghost use mathlib.Core.Path.{_≡_};
+ghost use Prim.Native.Nat.{_≤_, _<_};
+ghost use lib.ListN.{length, getD};
+ghost use mir.Syntax.{w16};
+ghost use mir.Val.{SFits};
+ghost use Rattle.sheet.specs.Bytes.{complement};
+ghost use Rattle.sheet.specs.Line.{farthestEnd};
+ghost use Rattle.sheet.specs.Records.{Decides, Along};
+ghost use Rattle.sheet.specs.Fields.{writable};
+ghost use Rattle.writing.specs.Lists.{countOf, secondOf, Same, Rule};
+use sheet::Table;
+use sheet::check::counts_keep;
+use sheet::check::record_keeps;
+
+// Two's complement of 16 bits.
+fn bits(z: i32) -> u32
+    requires { ⌜ SFits w16 z ⌝ }
+    ensures { λ r. ⌜ (r ≡ complement z) × (r < 65536) ⌝ }
+{
+    let g = train::slope::gradient_of(z);
+    let fall = g.fall;
+    if fall > 0 { 65536 - fall } else { g.rise }
+}
+
+// The two bytes of a record: a stretch's gradient, or a signal's overlap.
+pub fn second(table: Table, gradients: &[i16], overlaps: &[u16], k: usize) -> u32
+    requires { ⌜ k < countOf table (now gradients) (now overlaps) ⌝ }
+    ensures { λ r. ⌜ (r ≡ secondOf table (now (gradients .entry)) (now (overlaps .entry)) k) × (r < 65536) × Same table (now (gradients .entry)) (now (overlaps .entry)) k r ⌝ }
+{
+    match table {
+        Table::Stretches => bits(gradients[k] as i32),
+        Table::Signals => overlaps[k] as u32,
+    }
+}
+
+// The records of one table.
+fn records_keep(table: Table, firsts: &[u32], gradients: &[i16], overlaps: &[u16], end: u32) -> bool
+    requires { ⌜ (length (now firsts) ≡ countOf table (now gradients) (now overlaps)) × (end ≤ farthestEnd) ⌝ }
+    ensures { λ r. ⌜ Decides r (Along (λ k. getD (now (firsts .entry)) k 0) (λ k. Rule table (now (gradients .entry)) (now (overlaps .entry)) end (getD (now (firsts .entry)) k 0) k) (length (now (firsts .entry)))) ⌝ }
+{
+    let mut low: u32 = 0;
+    let mut k: usize = 0;
+    while k < firsts.len() {
+        let first = firsts[k];
+        let second = second(table, gradients, overlaps, k);
+        if !record_keeps(table, low, first, second, end) {
+            return false;
+        }
+        low = first + 1;
+        k += 1;
+    }
+    true
+}
+
+// The paired lists are as long as each other, and every rule is kept.
+pub fn keep(starts: &[u32], gradients: &[i16], places: &[u32], overlaps: &[u16], end: u32) -> bool
+    ensures { λ r. ⌜ r ≡ writable (record { starts = now (starts .entry); gradients = now (gradients .entry); places = now (places .entry); overlaps = now (overlaps .entry); end = end }) ⌝ }
+{
+    if gradients.len() != starts.len() {
+        return false;
+    }
+    if overlaps.len() != places.len() {
+        return false;
+    }
+    if !counts_keep(starts.len(), places.len(), end) {
+        return false;
+    }
+    if starts[0] != 0 {
+        return false;
+    }
+    if !records_keep(Table::Stretches, starts, gradients, overlaps, end) {
+        return false;
+    }
+    records_keep(Table::Signals, places, gradients, overlaps, end)
+}

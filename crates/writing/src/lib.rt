@@ -1,0 +1,39 @@
+// Writing a line sheet from its fields into a lent buffer. Document 01, "Line sheet".
+ghost use Rattle.writing.specs.Answer.{Writes};
+use train::Metre;
+use train::Written;
+
+pub mod fields;
+pub mod put;
+
+// The sheet of four lists and a line end, and how many bytes it takes; or a refusal, and the buffer is left as it was.
+pub fn write(
+    starts: &[u32],
+    gradients: &[i16],
+    places: &[u32],
+    overlaps: &[u16],
+    end: Metre,
+    sheet: &mut [u8],
+) -> Written
+    ensures { λ r. ⌜ Writes (record { starts = now (starts .entry); gradients = now (gradients .entry); places = now (places .entry); overlaps = now (overlaps .entry); end = end .0 }) (now (sheet .entry)) r (now (sheet .exit)) ⌝ }
+{
+    let last = end.0;
+    if !fields::keep(starts, gradients, places, overlaps, last) {
+        return Written {
+            refusal: 7,
+            length: 0,
+        };
+    }
+    let length = 20 + 6 * starts.len() + 6 * places.len();
+    if sheet.len() < length {
+        return Written {
+            refusal: 11,
+            length: 0,
+        };
+    }
+    put::whole(starts, gradients, places, overlaps, last, sheet);
+    Written {
+        refusal: 0,
+        length: length as u32,
+    }
+}
