@@ -1,36 +1,46 @@
 -- The mark along an accepted sheet: n moves from a fresh one give the stretches 0 to n - 1 in order, then "end" for ever.
 use mathlib.Core.Path.{_≡_, refl, ap, _∙_}
-use mathlib.Core.Bool.{Bool, true, false}
+use mathlib.Core.Bool.{Bool, true, false, cond}
 use mathlib.Core.List.{List}
 use Prim.Native.Nat.{ℕ, zero, suc, _+_, _≤_, _<_}
 use native.Mathlib.Omega.{arith}
 use native.Mathlib.Numerals.{add-one}
 use borrow.Author.Tests.{lt-ltb, le-ltb, ltb-true, ltb-false}
 use lib.Dec.{ltb}
-use lib.IntN.{pos}
-use Rattle.train.specs.Units.{metres}
+use Rattle.sheet.specs.Line.{Line}
 use Rattle.sheet.specs.Sheet.{lineOf, accepted}
 use Rattle.reading.specs.declared.mark.Mark.{Mark}
 use Rattle.reading.specs.declared.mark.Move.{Move}
-use Rattle.reading.specs.Answer.{moveOf, afterMoves}
+use Rattle.reading.specs.Answer.{stepOn, stepOff, stepOf, moveOf, afterMoves}
+
+-- a step by its end
+pub on-line : (l : Line) (m : Mark) → stepOf l m .end ≤ 0 → m .next < l .stretches
+on-line l m h = go (ltb (m .next) (l .stretches)) refl h
+  where
+    go : (b : Bool) → ltb (m .next) (l .stretches) ≡ b → cond b (stepOn l m) (stepOff m) .end ≤ 0 → m .next < l .stretches
+    go true e h = ltb-true _ _ e
+    go false e h = absurd (let k : 1 ≤ 0 = h in omega arith)
+
+pub off-line : (l : Line) (m : Mark) → 0 < stepOf l m .end → l .stretches ≤ m .next
+off-line l m h = go (ltb (m .next) (l .stretches)) refl h
+  where
+    go : (b : Bool) → ltb (m .next) (l .stretches) ≡ b → 0 < cond b (stepOn l m) (stepOff m) .end → l .stretches ≤ m .next
+    go true e h = absurd (let k : 0 < 0 = h in omega arith)
+    go false e h = ltb-false _ _ e
+
+pub step-on : (l : Line) (m : Mark) → m .next < l .stretches → stepOf l m ≡ stepOn l m
+step-on l m h = simp (lt-ltb (m .next) (l .stretches) h)
 
 module _ (s : List ℕ) (sheet : accepted s ≡ true) where
   abbrev at : ℕ → Mark
   at k = record { next = k }
 
-  -- what a move finds
-  abbrev pub found : ℕ → Move
-  found k = record { refusal = 0; end = 0; start = metres (lineOf s .start k); gradient = lineOf s .gradient k; mark = at (k + 1) }
-
-  abbrev pub ended : Mark → Move
-  ended m = record { refusal = 0; end = 1; start = metres 0; gradient = pos 0; mark = m }
-
-  move-on : (m : Mark) → m .next < lineOf s .stretches → moveOf s m ≡ found (m .next)
+  move-on : (m : Mark) → m .next < lineOf s .stretches → moveOf s m ≡ stepOn (lineOf s) m
   unfolding moveOf
   move-on m h = simp (sheet, lt-ltb (m .next) (lineOf s .stretches) h)
 
   -- any mark that is not before a stretch is at the end, and stays
-  pub stays : (m : Mark) → lineOf s .stretches ≤ m .next → moveOf s m ≡ ended m
+  pub stays : (m : Mark) → lineOf s .stretches ≤ m .next → moveOf s m ≡ stepOff m
   unfolding moveOf
   stays m h = simp (sheet, le-ltb (m .next) (lineOf s .stretches) h)
 
@@ -51,8 +61,8 @@ module _ (s : List ℕ) (sheet : accepted s ≡ true) where
       go ih false e =
           ap (λ m. moveOf s m .mark) (ih (ltb-false k (lineOf s .stretches) e)) ∙ ap (λ (r : Move). r .mark) (stays (at (lineOf s .stretches)) (omega arith))
 
-  pub in-order : (k : ℕ) → k < lineOf s .stretches → moveOf s (afterMoves s k) ≡ found k
+  pub in-order : (k : ℕ) → k < lineOf s .stretches → moveOf s (afterMoves s k) ≡ stepOn (lineOf s) (at k)
   in-order k h = ap (moveOf s) (before k (omega arith)) ∙ move-on (at k) h
 
-  pub for-ever : (k : ℕ) → lineOf s .stretches ≤ k → moveOf s (afterMoves s k) ≡ ended (afterMoves s k)
+  pub for-ever : (k : ℕ) → lineOf s .stretches ≤ k → moveOf s (afterMoves s k) ≡ stepOff (afterMoves s k)
   for-ever k h = stays (afterMoves s k) (rw (behind k h) (omega arith))

@@ -37,11 +37,14 @@ abbrev pub fresh : Mark
 fresh = record { next = 0 }
 
 -- a move along a line: the next stretch's fields and the advanced mark; past the last it answers "end", 1, and the mark stays
+abbrev pub stepOn : Line → Mark → Move
+stepOn l m = record { refusal = 0; end = 0; start = metres (l .start (m .next)); gradient = l .gradient (m .next); mark = record { next = m .next + 1 } }
+
+abbrev pub stepOff : Mark → Move
+stepOff m = record { refusal = 0; end = 1; start = metres 0; gradient = pos 0; mark = m }
+
 abbrev pub stepOf : Line → Mark → Move
-stepOf l m =
-    cond (ltb (m .next) (l .stretches))
-    (record { refusal = 0; end = 0; start = metres (l .start (m .next)); gradient = l .gradient (m .next); mark = record { next = m .next + 1 } })
-    (record { refusal = 0; end = 1; start = metres 0; gradient = pos 0; mark = m })
+stepOf l m = cond (ltb (m .next) (l .stretches)) (stepOn l m) (stepOff m)
 
 unfoldable pub moveOf : List ℕ → Mark → Move
 moveOf s m = cond (accepted s) (stepOf (lineOf s) m) (record { refusal = 7; end = 0; start = metres 0; gradient = pos 0; mark = fresh })

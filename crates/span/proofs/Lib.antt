@@ -1,0 +1,3 @@
+mod Order
+pub mod Pass
+pub mod Points

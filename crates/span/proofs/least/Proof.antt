@@ -1,0 +1,122 @@
+-- `least`: the pass along the mark, to the span's end or the last stretch.
+use Prim.Native.Nat.{ℕ, suc, _-_, _<_}
+use borrow.Author.Needs.{needs}
+use denote.Ref.{now}
+use mathlib.Core.Bool.{true}
+use mathlib.Core.List.{List}
+use mathlib.Core.Path.{_≡_, sym, ap, _∙_, subst}
+use lib.IntN.{ℤ, pos, negsuc}
+use mir.Syntax.{w32}
+use mir.Val.{SFits}
+use mir.ValLaws.{toZ-ofZ}
+use native.Mathlib.Numerals.{add-one}
+use native.Mathlib.Omega.{arith}
+use Rattle.train.specs.Gradient.{gradientOf, Moderate}
+use Rattle.reading.specs.declared.mark.Move.{Move}
+use Rattle.reading.specs.Answer.{stepOn}
+use Rattle.sheet.specs.Sheet.{lineOf, accepted}
+use Rattle.sheet.proofs.Kept.{Kept, headed-of}
+use Rattle.reading.proofs.Walk.{on-line, off-line, step-on}
+use Rattle.span.specs.Least.{slope}
+use Rattle.span.specs.Pass.{followed}
+use Rattle.span.proofs.Points.{Passed, passed-none, passed-more, passed-all}
+use Rattle.span.proofs.least.Statement.{statement}
+use Rattle.span.proofs.least.Tie as tie
+
+small-fits : (z : ℤ) → Moderate (gradientOf z) → SFits w32 z
+small-fits (pos n) m = record { sfits = omega (arith, m .rise) }
+small-fits (negsuc n) m = record { sfits = omega (arith, m .fall) }
+
+kept : (s : List ℕ) → accepted s ≡ true → Kept (lineOf s)
+kept s h = headed-of s h .1
+
+abbrev Inv-loop : tie.InvT-loop
+Inv-loop s first last mark₀ least₀ mark least = Passed (lineOf s) first last (mark .next) least
+
+abbrev μ-loop : tie.MeasureT-loop
+μ-loop s first last mark₀ least₀ mark least = lineOf s .stretches - mark .next
+
+fresh-requires : tie.Need-fresh-requires Inv-loop μ-loop
+fresh-requires c κs = search needs
+
+loop-holds : tie.Need-loop-holds Inv-loop μ-loop
+loop-holds c =
+    let b = c .before .before in
+    rw (c .fresh .ensures) (passed-none (lineOf (now (b .args .s))) (kept _ (b .pre .0)) (b .args .from .0) (b .args .to .0) (b .pre .1) (b .pre .2))
+
+step-requires : tie.Need-step-requires Inv-loop μ-loop
+step-requires c κs = c .before .before .before .pre .0
+
+-- a step that is not at the end has found the stretch of the mark's number
+on : (c : tie.Else1 Inv-loop μ-loop) → let l = c .before .before in l .loop .mark .next < lineOf (now (l .before .before .before .args .s)) .stretches
+on c = on-line (lineOf (now (c .before .before .before .before .before .args .s))) (c .before .before .loop .mark) (rw (c .before .step .ensures) at (c .if1 .left))
+
+found : (c : tie.Else1 Inv-loop μ-loop) → let l = c .before .before in c .before .step .result ≡ stepOn (lineOf (now (l .before .before .before .args .s))) (l .loop .mark)
+found c = c .before .step .ensures ∙ step-on (lineOf (now (c .before .before .before .before .before .args .s))) (c .before .before .loop .mark) (on c)
+
+slope-is : (c : tie.After-gradient-of Inv-loop μ-loop) → let l = c .before .before .before .before .before in c .gradient-of .result ≡ slope (lineOf (now (l .before .before .before .args .s))) (l .loop .mark .next)
+slope-is c =
+    let i = c .before .before .before in
+    let l = i .before .before in
+    let b = l .before .before .before in
+    let z : i .before .step .result .gradient ≡ lineOf (now (b .args .s)) .gradient (l .loop .mark .next) = ap (λ (r : Move). r .gradient) (found i) in
+    let f = small-fits _ (kept _ (b .pre .0) .stretches .each (l .loop .mark .next) (on i) .1) in
+    c .gradient-of .ensures ∙ ap gradientOf (toZ-ofZ w32 _ (rw z f) ∙ z)
+
+returns : tie.Need-returns Inv-loop μ-loop
+returns c =
+    let b = c .before .before .before .before .before in
+    let l = c .before .before in
+    passed-all (lineOf (now (b .args .s))) (kept _ (b .pre .0)) (b .args .from .0) (b .args .to .0) (b .pre .1) (b .pre .2) (l .loop .mark .next) (l .loop .least) (l .loop .inv)
+    (λ n. absurd (let o = off-line (lineOf (now (b .args .s))) (l .loop .mark) (rw (c .before .step .ensures) at (c .if1 .taken)) in omega arith))
+
+returns-2 : tie.Need-returns-2 Inv-loop μ-loop
+returns-2 c =
+    let b = c .before .before .before .before .before .before in
+    let l = c .before .before .before in
+    passed-all (lineOf (now (b .args .s))) (kept _ (b .pre .0)) (b .args .from .0) (b .args .to .0) (b .pre .1) (b .pre .2) (l .loop .mark .next) (l .loop .least) (l .loop .inv)
+    (λ n. rw (found (c .before)) at (c .if2 .taken))
+
+gradient-of-requires : tie.Need-gradient-of-requires Inv-loop μ-loop
+gradient-of-requires c κs = search needs
+
+follow-requires : tie.Need-follow-requires Inv-loop μ-loop
+follow-requires c κs =
+    let b = c .before .before .before .before .before .before .before .before in
+    let l = c .before .before .before .before .before in
+    (l .loop .inv .moderate, rw (slope-is c) (kept _ (b .pre .0) .stretches .each (l .loop .mark .next) (on (c .before .before .before)) .1))
+
+loop-less : tie.Need-loop-less Inv-loop μ-loop
+loop-less c = rw (found (c .before .before .before .before .before)) (let n = on (c .before .before .before .before .before) in omega arith)
+
+loop-again : tie.Need-loop-again Inv-loop μ-loop
+loop-again c =
+    let b = c .before .before .before .before .before .before .before .before .before .before in
+    let l = c .before .before .before .before .before .before .before in
+    let k = l .loop .mark .next in
+    let i = c .before .before .before .before .before in
+    let more = passed-more (lineOf (now (b .args .s))) (kept _ (b .pre .0)) (b .args .from .0) (b .args .to .0) (b .pre .1) (b .pre .2) k (l .loop .least) (l .loop .inv) (on i) (rw (found i) at (c .before .before .before .before .if2 .left)) in
+    let from = b .args .from .0 in
+    let line = lineOf (now (b .args .s)) in
+    let next : i .before .step .result .mark .next ≡ suc k = ap (λ (r : Move). r .mark .next) (found i) ∙ add-one k in
+    let kept-now : c .before .follow .result ≡ followed from (l .loop .least) (line .start k) (slope line k) =
+    c .before .follow .ensures
+    ∙ ap (λ (r : Move). followed from (l .loop .least) (r .start .0) (c .before .before .gradient-of .result)) (found i)
+    ∙ ap (followed from (l .loop .least) (line .start k)) (slope-is (c .before .before)) in
+    subst (λ (n : ℕ). Passed line from (b .args .to .0) n (c .before .follow .result)) (sym next) (subst (Passed line from (b .args .to .0) (suc k)) (sym kept-now) more)
+
+pub least-spec : {M : Type 1} → statement M
+least-spec =
+    tie.close
+    (tie.spec
+    Inv-loop
+    μ-loop
+    fresh-requires
+    loop-holds
+    step-requires
+    returns
+    returns-2
+    gradient-of-requires
+    follow-requires
+    loop-less
+    loop-again)

@@ -1,0 +1,54 @@
+// The least gradient over a span of a line. Document 01, "Approach".
+ghost use mathlib.Core.Path.{_≡_};
+ghost use mathlib.Core.Bool.{true};
+ghost use Prim.Native.Nat.{_≤_, _<_};
+ghost use Rattle.train.specs.Gradient.{Moderate};
+ghost use Rattle.sheet.specs.Sheet.{lineOf, accepted};
+ghost use Rattle.span.specs.Least.{LeastOver};
+ghost use Rattle.span.specs.Pass.{followed};
+use reading::mark::Mark;
+use train::Gradient;
+use train::Metre;
+
+// What the pass keeps after a stretch: its own gradient while it starts at or before the span, else the less of both.
+fn follow(least: Gradient, from: u32, start: u32, g: Gradient) -> Gradient
+    requires { ⌜ Moderate least × Moderate g ⌝ }
+    ensures { λ r. ⌜ r ≡ followed from least start g ⌝ }
+{
+    let up = least.rise;
+    let down = least.fall;
+    let rise = g.rise;
+    let fall = g.fall;
+    if start <= from {
+        return g;
+    }
+    if up + fall <= rise + down {
+        return least;
+    }
+    g
+}
+
+// The least gradient of the stretches that hold a point from `from` up to but not including `to`.
+pub fn least(s: &[u8], from: Metre, to: Metre) -> Gradient
+    requires { ⌜ (accepted (now s) ≡ true) × (from .0 < to .0) × (to .0 ≤ lineOf (now s) .end) ⌝ }
+    ensures { λ r. ⌜ LeastOver (lineOf (now (s .entry))) (from .0) (to .0) r ⌝ }
+{
+    let first = from.0;
+    let last = to.0;
+    let mut mark = Mark::fresh();
+    let mut least = Gradient { rise: 0, fall: 0 };
+    loop {
+        let step = mark.step(s);
+        let end = step.end;
+        let start = step.start.0;
+        if end > 0 {
+            return least;
+        }
+        if start >= last {
+            return least;
+        }
+        let g = train::slope::gradient_of(step.gradient);
+        least = follow(least, first, start, g);
+        mark = step.mark;
+    }
+}
