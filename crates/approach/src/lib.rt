@@ -7,9 +7,16 @@ ghost use Rattle.curve.specs.declared.Curve.the-variants.{Ebi, Sbi, W, P};
 ghost use Rattle.step.specs.Answer.{StepAnswers, RowAnswers};
 ghost use Rattle.ceilings.specs.Ceilings.{limitsOf};
 ghost use Rattle.ceilings.specs.Paper.{AsPrinted};
+ghost use Rattle.sheet.specs.Fields.{Fields};
+ghost use Rattle.reading.specs.Answer.{stretchOf, signalOf, moveOf, Again};
+ghost use Rattle.writing.specs.Answer.{Writes};
 ghost use Rattle.approach.specs.Entered.{trainOf};
 use ceilings::Limits;
 use curve::Curve;
+use reading::Signal;
+use reading::Stretch;
+use reading::mark::Mark;
+use reading::mark::Move;
 use step::Distances;
 use train::BrakeType;
 use train::Kmh;
@@ -101,4 +108,39 @@ pub extern "C" fn approach_ceilings(permitted: u32) -> Limits
     ensures { λ r. ⌜ (r ≡ limitsOf (kmh permitted)) × (r .refusal ≡ 0 → AsPrinted (kmh permitted) r) ⌝ }
 {
     ceilings::ceilings(Kmh(permitted))
+}
+
+#[no_mangle]
+pub extern "C" fn approach_sheet_write(
+    starts: &[u32],
+    gradients: &[i16],
+    places: &[u32],
+    overlaps: &[u16],
+    line_end: u32,
+    sheet: &mut [u8],
+) -> Written
+    ensures { λ r. ⌜ Writes (record { starts = now (starts .entry); gradients = now (gradients .entry); places = now (places .entry); overlaps = now (overlaps .entry); end = «line_end» }) (now (sheet .entry)) r (now (sheet .exit)) ⌝ }
+{
+    writing::write(starts, gradients, places, overlaps, Metre(line_end), sheet)
+}
+
+#[no_mangle]
+pub extern "C" fn approach_sheet_stretch(sheet: &[u8], number: u32) -> Stretch
+    ensures { λ r. ⌜ (r ≡ stretchOf (now (sheet .entry)) number) × Again (now (sheet .entry)) (r .refusal) ⌝ }
+{
+    reading::read_stretch(sheet, number)
+}
+
+#[no_mangle]
+pub extern "C" fn approach_sheet_signal(sheet: &[u8], number: u32) -> Signal
+    ensures { λ r. ⌜ (r ≡ signalOf (now (sheet .entry)) number) × Again (now (sheet .entry)) (r .refusal) ⌝ }
+{
+    reading::read_signal(sheet, number)
+}
+
+#[no_mangle]
+pub extern "C" fn approach_sheet_next(sheet: &[u8], mark: Mark) -> Move
+    ensures { λ r. ⌜ (r ≡ moveOf (now (sheet .entry)) mark) × Again (now (sheet .entry)) (r .refusal) ⌝ }
+{
+    mark.moved(sheet)
 }

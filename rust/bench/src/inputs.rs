@@ -1,5 +1,7 @@
 //! Inputs that keep what the contracts ask: fixed pseudo-random streams, with 0, the largest word and short words among them.
+use crate::library::Line;
 use crate::{peer, Wide};
+use std::collections::BTreeSet;
 
 /// SplitMix64.
 pub struct Random(pub u64);
@@ -53,6 +55,49 @@ impl Random {
         let whole = peer::times(d, self.next() >> 32);
         let rest = cut(Wide { low: self.next(), mid: self.next(), high: self.next() }, bits - 1);
         (if peer::at_most(rest, whole) { peer::difference(whole, rest) } else { whole }, d)
+    }
+
+    /// `count` rising numbers below `end`, which is not below `count`.
+    fn rising(&mut self, count: u32, end: u32) -> Vec<u32> {
+        let mut numbers = BTreeSet::new();
+        while numbers.len() < count as usize {
+            numbers.insert(self.below(end as u64) as u32);
+        }
+        numbers.into_iter().collect()
+    }
+
+    /// The least line end for these counts, the greatest of all, or one between.
+    fn line_end(&mut self, stretches: u32, signals: u32) -> u32 {
+        let least = stretches.max(signals).max(1);
+        match self.below(8) {
+            0 => least,
+            1 => 500_000,
+            2 => least + self.below(100) as u32,
+            _ => least + self.below((500_001 - least) as u64) as u32,
+        }
+    }
+
+    /// None, all that the line end leaves room for, or any between.
+    fn overlap(&mut self, room: u32) -> u16 {
+        let most = room.min(u16::MAX as u32);
+        match self.below(4) {
+            0 => 0,
+            1 => most as u16,
+            _ => self.below(most as u64 + 1) as u16,
+        }
+    }
+
+    /// A line that keeps every rule of a sheet but, where asked for other counts, that of the counts.
+    pub fn line(&mut self, stretches: u32, signals: u32) -> Line {
+        let end = self.line_end(stretches, signals);
+        let mut starts = self.rising(stretches, end);
+        if let Some(first) = starts.first_mut() {
+            *first = 0;
+        }
+        let gradients = starts.iter().map(|_| self.below(71) as i16 - 35).collect();
+        let places = self.rising(signals, end);
+        let overlaps = places.iter().map(|place| self.overlap(end - place)).collect();
+        Line { starts, gradients, places, overlaps, end }
     }
 }
 

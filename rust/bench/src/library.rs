@@ -20,7 +20,7 @@ pub struct Distances {
     pub p: u32,
 }
 
-/// How many places were written.
+/// How many places of a row, or bytes of a sheet, were written.
 #[repr(C)]
 #[derive(Clone, Copy, Debug, PartialEq, Eq)]
 pub struct Written {
@@ -36,6 +36,54 @@ pub struct Limits {
     pub w: u32,
     pub sbi: u32,
     pub ebi: u32,
+}
+
+/// What a sheet is written from: starts, places, overlaps and the end in metres, gradients in per mille.
+#[derive(Clone, Debug, PartialEq, Eq)]
+pub struct Line {
+    pub starts: Vec<u32>,
+    pub gradients: Vec<i16>,
+    pub places: Vec<u32>,
+    pub overlaps: Vec<u16>,
+    pub end: u32,
+}
+
+/// A start in metres, a gradient in per mille.
+#[repr(C)]
+#[derive(Clone, Copy, Debug, PartialEq, Eq)]
+pub struct Stretch {
+    pub refusal: u32,
+    pub start: u32,
+    pub gradient: i32,
+}
+
+/// Metres.
+#[repr(C)]
+#[derive(Clone, Copy, Debug, PartialEq, Eq)]
+pub struct Signal {
+    pub refusal: u32,
+    pub place: u32,
+    pub overlap: u32,
+}
+
+/// A reading mark before stretch `next`.
+#[repr(C)]
+#[derive(Clone, Copy, Debug, PartialEq, Eq)]
+pub struct Mark {
+    pub next: u32,
+}
+
+pub const FRESH: Mark = Mark { next: 0 };
+
+/// A mark's move: `end` is 1 past the last stretch, and the mark then stays.
+#[repr(C)]
+#[derive(Clone, Copy, Debug, PartialEq, Eq)]
+pub struct Move {
+    pub refusal: u32,
+    pub end: u32,
+    pub start: u32,
+    pub gradient: i32,
+    pub mark: Mark,
 }
 
 #[derive(Clone, Copy, Debug, PartialEq, Eq)]
@@ -57,6 +105,22 @@ extern "C" {
     fn approach_row_w(train: Train, v0: u32, gradient: i32, row: *mut u32, places: usize) -> Written;
     fn approach_row_p(train: Train, v0: u32, gradient: i32, row: *mut u32, places: usize) -> Written;
     fn approach_ceilings(permitted: u32) -> Limits;
+    fn approach_sheet_write(
+        starts: *const u32,
+        start_count: usize,
+        gradients: *const i16,
+        gradient_count: usize,
+        places: *const u32,
+        place_count: usize,
+        overlaps: *const u16,
+        overlap_count: usize,
+        line_end: u32,
+        sheet: *mut u8,
+        room: usize,
+    ) -> Written;
+    fn approach_sheet_stretch(sheet: *const u8, length: usize, number: u32) -> Stretch;
+    fn approach_sheet_signal(sheet: *const u8, length: usize, number: u32) -> Signal;
+    fn approach_sheet_next(sheet: *const u8, length: usize, mark: Mark) -> Move;
 }
 
 pub fn step(train: Train, v: u32, v0: u32, gradient: i32) -> Distances {
@@ -75,4 +139,35 @@ pub fn row(curve: Curve, train: Train, v0: u32, gradient: i32, row: &mut [u32]) 
 
 pub fn ceilings(permitted: u32) -> Limits {
     unsafe { approach_ceilings(permitted) }
+}
+
+pub fn sheet_write(line: &Line, sheet: &mut [u8]) -> Written {
+    let Line { starts, gradients, places, overlaps, end } = line;
+    unsafe {
+        approach_sheet_write(
+            starts.as_ptr(),
+            starts.len(),
+            gradients.as_ptr(),
+            gradients.len(),
+            places.as_ptr(),
+            places.len(),
+            overlaps.as_ptr(),
+            overlaps.len(),
+            *end,
+            sheet.as_mut_ptr(),
+            sheet.len(),
+        )
+    }
+}
+
+pub fn sheet_stretch(sheet: &[u8], number: u32) -> Stretch {
+    unsafe { approach_sheet_stretch(sheet.as_ptr(), sheet.len(), number) }
+}
+
+pub fn sheet_signal(sheet: &[u8], number: u32) -> Signal {
+    unsafe { approach_sheet_signal(sheet.as_ptr(), sheet.len(), number) }
+}
+
+pub fn sheet_next(sheet: &[u8], mark: Mark) -> Move {
+    unsafe { approach_sheet_next(sheet.as_ptr(), sheet.len(), mark) }
 }

@@ -1,0 +1,74 @@
+//! The check of a line sheet as one would write it in Rust: one pass over the bytes, and no copy of them.
+//! What is timed stands behind a call that is not inlined, as the proved one does.
+use crate::library::Signal;
+
+const HEADER: usize = 20;
+
+/// A stretch or a signal: a place in four bytes, then its gradient or overlap.
+type Entry = [u8; 6];
+
+#[inline(always)]
+fn split(&[a, b, c, d, e, f]: &Entry) -> (u32, [u8; 2]) {
+    (u32::from_le_bytes([a, b, c, d]), [e, f])
+}
+
+/// The stretches, the signals and the line end of a sheet whose header is right.
+#[inline(always)]
+fn parts(sheet: &[u8]) -> Option<(&[Entry], &[Entry], u32)> {
+    let (header, rest) = sheet.split_first_chunk::<HEADER>()?;
+    let count = |at: usize| u16::from_le_bytes([header[at], header[at + 1]]) as usize;
+    let number = |at: usize| u32::from_le_bytes([header[at], header[at + 1], header[at + 2], header[at + 3]]);
+    let (n, m, end) = (count(0), count(2), number(16));
+    let signal_offset = HEADER + 6 * n;
+    let length = signal_offset + 6 * m;
+    if !(1..=512).contains(&n)
+        || m > 64
+        || [number(4), number(8), number(12)] != [HEADER, signal_offset, length].map(|n| n as u32)
+        || sheet.len() != length
+        || !(1..=500_000).contains(&end)
+    {
+        return None;
+    }
+    let (stretches, signals) = rest.as_chunks().0.split_at(n);
+    Some((stretches, signals, end))
+}
+
+/// Whether the places rise strictly below the line end, each with what its last two bytes have to keep.
+#[inline(always)]
+fn rise(entries: &[Entry], end: u32, keeps: impl Fn(u32, [u8; 2]) -> bool) -> bool {
+    // From the last to the first, so that one comparison serves for the order and the end.
+    let mut bound = end;
+    for entry in entries.iter().rev() {
+        let (place, last) = split(entry);
+        if place >= bound || !keeps(place, last) {
+            return false;
+        }
+        bound = place;
+    }
+    true
+}
+
+/// The signals of a sheet that keeps every rule.
+#[inline(always)]
+fn checked(sheet: &[u8]) -> Option<&[Entry]> {
+    let (stretches, signals, end) = parts(sheet)?;
+    let kept = split(&stretches[0]).0 == 0
+        && rise(stretches, end, |_, gradient| i16::from_le_bytes(gradient).unsigned_abs() <= 35)
+        && rise(signals, end, |place, overlap| u16::from_le_bytes(overlap) as u32 <= end - place);
+    kept.then_some(signals)
+}
+
+#[inline(never)]
+pub fn accepts(sheet: &[u8]) -> bool {
+    checked(sheet).is_some()
+}
+
+/// The check of the whole sheet, then one signal of it.
+#[inline(never)]
+pub fn signal(sheet: &[u8], number: u32) -> Signal {
+    let refused = |refusal| Signal { refusal, place: 0, overlap: 0 };
+    let Some(signals) = checked(sheet) else { return refused(7) };
+    let Some(signal) = signals.get(number as usize) else { return refused(8) };
+    let (place, overlap) = split(signal);
+    Signal { refusal: 0, place, overlap: u16::from_le_bytes(overlap) as u32 }
+}
