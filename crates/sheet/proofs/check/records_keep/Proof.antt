@@ -3,10 +3,10 @@ use borrow.Author.Needs.{needs}
 use borrow.Author.Tests.{not-true, not-false}
 use denote.Ref.{now}
 use mathlib.Core.List.{List}
-use mathlib.Core.Path.{_≡_, refl, ap}
+use mathlib.Core.Path.{_≡_, refl}
 use native.Mathlib.Omega.{arith}
 use native.Mathlib.Numerals.{add-one}
-use Prim.Native.Nat.{ℕ, suc, _+_, _-_, _*_, _≤_}
+use Prim.Native.Nat.{ℕ, _+_, _-_, _*_, _≤_}
 use Rattle.sheet.specs.declared.Table.{Table}
 use Rattle.sheet.specs.Bytes.{u16At, u32At}
 use Rattle.sheet.specs.Records.{Decides, Keeps, Along, lowest}
@@ -86,7 +86,7 @@ loop-again c =
     let k = l .loop .k in
     let f = decided r .yes (not-false _ (c .if1 .left)) in (
       omega (arith, r .before .before .before .loop-test .taken),
-      rw (add-one k, add-one (r .before .before .u32-at .result)) (ap suc (r .before .before .u32-at .ensures)),
+      rw (add-one k) (omega (arith, r .before .before .u32-at .ensures)),
       rw (add-one k) (one-more _ _ k (l .loop .inv .2) (f .0) (f .1)),
     )
 

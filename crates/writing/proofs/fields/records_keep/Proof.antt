@@ -84,7 +84,7 @@ loop-again c =
     let l = r .before .before .before .before in
     let k = l .loop .k in
     let f = decided r .yes (not-false _ (c .if1 .left)) in
-    (omega (arith, r .before .before .before .loop-test .taken), rw (add-one k) (add-one _), rw (add-one k) (one-more _ _ k (l .loop .inv .2) (f .0) (f .1)))
+    (omega (arith, r .before .before .before .loop-test .taken), rw (add-one k) (omega arith), rw (add-one k) (one-more _ _ k (l .loop .inv .2) (f .0) (f .1)))
 
 returns-2 : tie.Need-returns-2 Inv-loop μ-loop
 returns-2 c =
