@@ -12,9 +12,9 @@ use Rattle.lists.proofs.Holding.{and-left, and-right, every-at, every-of, each-
 use Rattle.train.specs.Gradient.{gradientOf, Moderate}
 use Rattle.sheet.specs.declared.Table.{Table}
 use Rattle.sheet.specs.declared.Table.the-variants.{Stretches, Signals}
-use Rattle.sheet.specs.Line.{Line, rise, moderate, countRules, stretchRules, signalRules}
+use Rattle.sheet.specs.Line.{Line, rises, moderate, countRules, stretchRules, signalRules}
 use Rattle.sheet.specs.Sheet.{lineOf, headerRules, keeps, accepted}
-use Rattle.sheet.specs.Records.{Headed, Counts, Keeps, Along, lowest}
+use Rattle.sheet.specs.Records.{Headed, Counts, KeepsItself, Along, lowest}
 
 not-below : (k : ℕ) → k < 0 → ⊥
 not-below k h = omega arith
@@ -34,10 +34,10 @@ moderate-at z h =
 moderate-of : (z : ℤ) → Moderate (gradientOf z) → moderate z ≡ true
 moderate-of z h = rw (le-leb _ _ (h .rise), le-leb _ _ (h .fall))
 
-rise-at : (x : ℕ → ℕ) (n : ℕ) → rise x n ≡ true → (k : ℕ) → suc k < n → x k < x (suc k)
+rise-at : (x : ℕ → ℕ) (n : ℕ) → rises x n ≡ true → (k : ℕ) → suc k < n → x k < x (suc k)
 rise-at x n e k h = ltb-true _ _ (every-at (n - 1) _ e k (omega arith))
 
-rise-of : (x : ℕ → ℕ) (n : ℕ) → ((k : ℕ) → suc k < n → x k < x (suc k)) → rise x n ≡ true
+rise-of : (x : ℕ → ℕ) (n : ℕ) → ((k : ℕ) → suc k < n → x k < x (suc k)) → rises x n ≡ true
 rise-of x n h = every-of (n - 1) _ (λ k l. lt-ltb _ _ (h k (omega arith)))
 
 pub kept-of : (l : Line) → keeps l ≡ true → Kept l
@@ -103,7 +103,7 @@ accepted-is s h =
     rw (le-leb _ _ (h .room), eq-eqb _ _ (h .stretches), eq-eqb _ _ (h .signals), eq-eqb _ _ (h .whole), eq-eqb _ _ (h .lent)) (and-true (keeps (lineOf s)))
 
 -- a record of either table lies on the line
-pub on-line : (t : Table) (end x y : ℕ) → Keeps t end x y → x < end
+pub on-line : (t : Table) (end x y : ℕ) → KeepsItself t end x y → x < end
 on-line Stretches end x y k = k .0
 on-line Signals end x y k = k .0
 

@@ -27,8 +27,8 @@ abbrev pub farthestEnd : ℕ
 farthestEnd = 500000
 
 -- the first n rise strictly
-abbrev pub rise : (ℕ → ℕ) → ℕ → Bool
-rise x n = every (n - 1) (λ k. ltb (x k) (x (suc k)))
+abbrev pub rises : (ℕ → ℕ) → ℕ → Bool
+rises x n = every (n - 1) (λ k. ltb (x k) (x (suc k)))
 
 -- -35 to 35
 abbrev pub moderate : ℤ → Bool
@@ -40,14 +40,14 @@ countRules l = leb 1 (l .stretches) ∷ leb (l .stretches) mostStretches ∷ leb
 abbrev pub stretchRules : Line → List Bool
 stretchRules l =
     eqb (l .start 0) 0
-    ∷ rise (l .start) (l .stretches)
+    ∷ rises (l .start) (l .stretches)
     ∷ every (l .stretches) (λ k. ltb (l .start k) (l .end))
     ∷ every (l .stretches) (λ k. moderate (l .gradient k))
     ∷ []
 
 abbrev pub signalRules : Line → List Bool
 signalRules l =
-    rise (l .place) (l .signals)
+    rises (l .place) (l .signals)
     ∷ every (l .signals) (λ k. ltb (l .place k) (l .end))
     ∷ every (l .signals) (λ k. leb (l .place k + l .overlap k) (l .end))
     ∷ []

@@ -32,9 +32,9 @@ pub record Counts (n m end : ℕ) : Type 0 where
   pub ends : end ≤ farthestEnd
 
 -- what a record of x metres and the two bytes y keeps by itself
-abbrev pub Keeps : Table → ℕ → ℕ → ℕ → Type 0
-Keeps Stretches end x y = (x < end) × Moderate (gradientOf (signed y))
-Keeps Signals end x y = (x < end) × (x + y ≤ end)
+abbrev pub KeepsItself : Table → ℕ → ℕ → ℕ → Type 0
+KeepsItself Stretches end x y = (x < end) × Moderate (gradientOf (signed y))
+KeepsItself Signals end x y = (x < end) × (x + y ≤ end)
 
 -- the first n rise strictly, and each keeps its rule
 pub record Along (x : ℕ → ℕ) (Rule : ℕ → Type 0) (n : ℕ) : Type 0 where

@@ -6,10 +6,17 @@ ghost use Rattle.sheet.specs.Bytes.{u16At, u32At};
 ghost use Rattle.sheet.specs.Line.{farthestEnd};
 ghost use Rattle.sheet.specs.Sheet.{lineOf, keeps};
 ghost use Rattle.sheet.specs.Fields.{Checked};
-ghost use Rattle.sheet.specs.Records.{Decides, Headed, Counts, Keeps, Along};
+ghost use Rattle.sheet.specs.Records.{Decides, Headed, Counts, KeepsItself, Along};
 use super::Table;
 use super::bytes::u16_at;
 use super::bytes::u32_at;
+
+// The most stretches and signals, and the farthest line end in metres.
+const MOST_STRETCHES: usize = 512;
+
+const MOST_SIGNALS: usize = 64;
+
+const FARTHEST_END: u32 = 500000;
 
 // The counts and the line end.
 pub fn counts_keep(n: usize, m: usize, end: u32) -> bool
@@ -18,16 +25,16 @@ pub fn counts_keep(n: usize, m: usize, end: u32) -> bool
     if n < 1 {
         return false;
     }
-    if n > 512 {
+    if n > MOST_STRETCHES {
         return false;
     }
-    if m > 64 {
+    if m > MOST_SIGNALS {
         return false;
     }
     if end < 1 {
         return false;
     }
-    if end > 500000 {
+    if end > FARTHEST_END {
         return false;
     }
     true
@@ -36,7 +43,7 @@ pub fn counts_keep(n: usize, m: usize, end: u32) -> bool
 // A gradient of -35 to 35, in two's complement; an overlap that ends on the line.
 fn half_keeps(table: Table, first: u32, second: u32, end: u32) -> bool
     requires { ⌜ (first < end) × (end ≤ farthestEnd) × (second < 65536) ⌝ }
-    ensures { λ r. ⌜ Decides r (Keeps table end first second) ⌝ }
+    ensures { λ r. ⌜ Decides r (KeepsItself table end first second) ⌝ }
 {
     match table {
         Table::Stretches => {
@@ -52,7 +59,7 @@ fn half_keeps(table: Table, first: u32, second: u32, end: u32) -> bool
 // One record. `low` is the least number of metres that it may have.
 pub fn record_keeps(table: Table, low: u32, first: u32, second: u32, end: u32) -> bool
     requires { ⌜ (end ≤ farthestEnd) × (second < 65536) ⌝ }
-    ensures { λ r. ⌜ Decides r ((low ≤ first) × Keeps table end first second) ⌝ }
+    ensures { λ r. ⌜ Decides r ((low ≤ first) × KeepsItself table end first second) ⌝ }
 {
     if first < low {
         return false;
@@ -66,7 +73,7 @@ pub fn record_keeps(table: Table, low: u32, first: u32, second: u32, end: u32) -
 // The n records of a table that begins at `at`.
 fn records_keep(table: Table, s: &[u8], at: usize, n: usize, end: u32) -> bool
     requires { ⌜ (at + 6 * n ≤ length (now s)) × (end ≤ farthestEnd) ⌝ }
-    ensures { λ r. ⌜ Decides r (Along (λ k. u32At (now (s .entry)) (at + 6 * k)) (λ k. Keeps table end (u32At (now (s .entry)) (at + 6 * k)) (u16At (now (s .entry)) (at + 6 * k + 4))) n) ⌝ }
+    ensures { λ r. ⌜ Decides r (Along (λ k. u32At (now (s .entry)) (at + 6 * k)) (λ k. KeepsItself table end (u32At (now (s .entry)) (at + 6 * k)) (u16At (now (s .entry)) (at + 6 * k + 4))) n) ⌝ }
 {
     let mut low: u32 = 0;
     let mut k: usize = 0;

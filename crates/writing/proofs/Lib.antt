@@ -1,3 +1,1 @@
-mod Bits
-mod Rules
 mod Answers

@@ -3,7 +3,6 @@ ghost use Rattle.writing.specs.Answer.{Writes};
 use train::Metre;
 use train::Written;
 
-pub mod fields;
 pub mod put;
 
 // The sheet of four lists and a line end, and how many bytes it takes; or a refusal, and the buffer is left as it was.
@@ -18,7 +17,7 @@ pub fn write(
     ensures { λ r. ⌜ Writes (record { starts = now (starts .entry); gradients = now (gradients .entry); places = now (places .entry); overlaps = now (overlaps .entry); end = end .0 }) (now (sheet .entry)) r (now (sheet .exit)) ⌝ }
 {
     let last = end.0;
-    if !fields::keep(starts, gradients, places, overlaps, last) {
+    if !listing::keep(starts, gradients, places, overlaps, last) {
         return Written {
             refusal: 7,
             length: 0,

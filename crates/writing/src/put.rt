@@ -9,8 +9,8 @@ ghost use Rattle.sheet.specs.Bytes.{bytes2, bytes4};
 ghost use Rattle.sheet.specs.Line.{mostStretches, mostSignals};
 ghost use Rattle.sheet.specs.Sheet.{sheetLength, header, records};
 ghost use Rattle.sheet.specs.Fields.{writable, sheetOf};
-ghost use Rattle.writing.specs.Lists.{countOf, secondOf};
-use super::fields::second;
+ghost use Rattle.listing.specs.Lists.{countOf, secondOf};
+use listing::second;
 use sheet::Table;
 
 fn u16_at(out: &mut [u8], i: usize, x: u32)

@@ -39,7 +39,7 @@ add-length-2 : tie.Need-add-length-2
 add-length-2 c = let k = right c .kept .counts in omega (arith, k .stretches, k .signals)
 
 returns-2 : tie.Need-returns-2
-returns-2 c = no-room _ _ (held (c .before)) (c .if2 .taken)
+returns-2 c = no-room (given (c .before)) _ (held (c .before)) (omega (arith, c .if2 .taken))
 
 whole-requires : tie.Need-whole-requires
 whole-requires c κs = (held (c .before .before), c .before .if2 .left)

@@ -9,7 +9,7 @@ use mathlib.Core.Path.{_≡_, sym, _∙_, refl, ap, subst}
 use native.Mathlib.Omega.{arith}
 use Rattle.sheet.specs.declared.Table.{Table}
 use Rattle.sheet.specs.declared.Table.the-variants.{Stretches, Signals}
-use Rattle.sheet.specs.Records.{Keeps, Along, Decides, Counts}
+use Rattle.sheet.specs.Records.{KeepsItself, Along, Decides, Counts}
 use Rattle.sheet.proofs.Kept.{keeps-of, kept-of}
 use Rattle.sheet.proofs.Deciding.{agrees}
 use Rattle.lists.proofs.Holding.{refuted}
@@ -26,7 +26,7 @@ right c = counted (c .before) .yes (not-false _ (c .if1 .left))
 
 -- so are the records of a table
 abbrev Table-keeps : Table → List ℕ → ℕ → ℕ → ℕ → Type 0
-Table-keeps t s at end n = Along (λ k. u32At s (at + 6 * k)) (λ k. Keeps t end (u32At s (at + 6 * k)) (u16At s (at + 6 * k + 4))) n
+Table-keeps t s at end n = Along (λ k. u32At s (at + 6 * k)) (λ k. KeepsItself t end (u32At s (at + 6 * k)) (u16At s (at + 6 * k + 4))) n
 
 asked : (t : Table) (s : List ℕ) (b : Bool) {at at′ end end′ n n′ : ℕ} → at ≡ at′ → end ≡ end′ → n ≡ n′ → Decides b (Table-keeps t s at end n) → Decides b (Table-keeps t s at′ end′ n′)
 asked t s b {at} {at′} {end} {end′} {n} {n′} e f g d = subst (λ (m : ℕ). Decides b (Table-keeps t s at′ end′ m)) g (subst (λ (m : ℕ). Decides b (Table-keeps t s at′ m n)) f (subst (λ (m : ℕ). Decides b (Table-keeps t s m end n)) e d))

@@ -9,7 +9,7 @@ use native.Mathlib.Numerals.{add-one}
 use Prim.Native.Nat.{ℕ, _+_, _-_, _*_, _≤_}
 use Rattle.sheet.specs.declared.Table.{Table}
 use Rattle.sheet.specs.Bytes.{u16At, u32At}
-use Rattle.sheet.specs.Records.{Decides, Keeps, Along, lowest}
+use Rattle.sheet.specs.Records.{Decides, KeepsItself, Along, lowest}
 use Rattle.sheet.proofs.Deciding.{said-yes, said-no}
 use Rattle.sheet.proofs.Kept.{on-line, none-yet, one-more, at-each}
 use Rattle.sheet.proofs.check.records_keep.Statement.{statement}
@@ -19,7 +19,7 @@ abbrev metres : List ℕ → ℕ → ℕ → ℕ
 metres s at k = u32At s (at + 6 * k)
 
 abbrev Rule : Table → List ℕ → ℕ → ℕ → ℕ → Type 0
-Rule table s at end k = Keeps table end (u32At s (at + 6 * k)) (u16At s (at + 6 * k + 4))
+Rule table s at end k = KeepsItself table end (u32At s (at + 6 * k)) (u16At s (at + 6 * k + 4))
 
 abbrev Inv-loop : tie.InvT-loop
 Inv-loop table s at n end low₀ k₀ low k = (k ≤ n) × (low ≡ lowest (metres s at) k) × Along (metres s at) (Rule table s at end) k

@@ -12,7 +12,7 @@ use Rattle.lists.proofs.Laid.{put-then, put-none, length-put}
 use Rattle.sheet.specs.Bytes.{bytes2, bytes4}
 use Rattle.sheet.specs.Sheet.{records}
 use Rattle.sheet.proofs.Parts.{records-length}
-use Rattle.writing.specs.Lists.{secondOf}
+use Rattle.listing.specs.Lists.{secondOf}
 use Rattle.writing.proofs.put.records.Statement.{statement}
 use Rattle.writing.proofs.put.records.Tie as tie
 

@@ -11,8 +11,8 @@ use mir.ValLaws.{toZ-ofZ}
 use native.Mathlib.Omega.{arith}
 use Rattle.sheet.specs.Bytes.{signed}
 use Rattle.sheet.proofs.Complement.{signed-complement}
-use Rattle.writing.proofs.fields.second.Statement.{statement}
-use Rattle.writing.proofs.fields.second.Tie as tie
+use Rattle.listing.proofs.second.Statement.{statement}
+use Rattle.listing.proofs.second.Tie as tie
 
 -- the gradient that is read fits 16 bits, and is the same in 32
 small : (c : tie.After-bits-arg) → let a = c .before .before .before .before .args in SFits w16 (getD (now (a .gradients)) (a .k) (pos 0))

@@ -1,4 +1,4 @@
-// The fields as the caller's lists, and whether they keep the sheet's rules.
+// A line's fields as the caller's lists, and whether they keep the sheet's rules. Document 01, "Line sheet".
 ghost use mathlib.Core.Path.{_≡_};
 ghost use Prim.Native.Nat.{_≤_, _<_};
 ghost use lib.ListN.{length, getD};
@@ -8,7 +8,7 @@ ghost use Rattle.sheet.specs.Bytes.{complement};
 ghost use Rattle.sheet.specs.Line.{farthestEnd};
 ghost use Rattle.sheet.specs.Records.{Decides, Along};
 ghost use Rattle.sheet.specs.Fields.{writable};
-ghost use Rattle.writing.specs.Lists.{countOf, secondOf, Same, Rule};
+ghost use Rattle.listing.specs.Lists.{countOf, secondOf, Same, Rule};
 use sheet::Table;
 use sheet::check::counts_keep;
 use sheet::check::record_keeps;

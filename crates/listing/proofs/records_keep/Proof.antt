@@ -10,10 +10,10 @@ use native.Mathlib.Omega.{arith}
 use Rattle.sheet.specs.Records.{Decides, Along, lowest}
 use Rattle.sheet.proofs.Deciding.{said-yes, said-no, decides-alike}
 use Rattle.sheet.proofs.Kept.{on-line, none-yet, one-more, at-each}
-use Rattle.writing.specs.Lists.{Rule}
-use Rattle.writing.proofs.Rules.{to-rule, from-rule}
-use Rattle.writing.proofs.fields.records_keep.Statement.{statement}
-use Rattle.writing.proofs.fields.records_keep.Tie as tie
+use Rattle.listing.specs.Lists.{Rule}
+use Rattle.listing.proofs.Rules.{to-rule, from-rule}
+use Rattle.listing.proofs.records_keep.Statement.{statement}
+use Rattle.listing.proofs.records_keep.Tie as tie
 
 abbrev Inv-loop : tie.InvT-loop
 Inv-loop table firsts gradients overlaps end low₀ k₀ low k = (k ≤ length firsts) × (low ≡ lowest (λ i. getD firsts i 0) k) × Along (λ i. getD firsts i 0) (λ i. Rule table gradients overlaps end (getD firsts i 0) i) k

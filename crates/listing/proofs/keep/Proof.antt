@@ -6,8 +6,8 @@ use native.Mathlib.Omega.{arith}
 use Rattle.lists.proofs.Holding.{refuted}
 use Rattle.sheet.proofs.Deciding.{agrees}
 use Rattle.sheet.proofs.Writable.{writable-at, writable-of}
-use Rattle.writing.proofs.fields.keep.Statement.{statement}
-use Rattle.writing.proofs.fields.keep.Tie as tie
+use Rattle.listing.proofs.keep.Statement.{statement}
+use Rattle.listing.proofs.keep.Tie as tie
 
 returns : tie.Need-returns
 returns c = sym (refuted _ (λ w. c .if1 .taken (writable-at _ w .stretches)))

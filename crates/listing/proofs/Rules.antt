@@ -4,13 +4,13 @@ use Prim.Native.Nat.{ℕ}
 use lib.IntN.{ℤ}
 use Rattle.sheet.specs.declared.Table.{Table}
 use Rattle.sheet.specs.declared.Table.the-variants.{Stretches, Signals}
-use Rattle.sheet.specs.Records.{Keeps}
-use Rattle.writing.specs.Lists.{Same, Rule}
+use Rattle.sheet.specs.Records.{KeepsItself}
+use Rattle.listing.specs.Lists.{Same, Rule}
 
-pub to-rule : (t : Table) (gs : List ℤ) (os : List ℕ) (end x y k : ℕ) → Same t gs os k y → Keeps t end x y → Rule t gs os end x k
+pub to-rule : (t : Table) (gs : List ℤ) (os : List ℕ) (end x y k : ℕ) → Same t gs os k y → KeepsItself t end x y → Rule t gs os end x k
 to-rule Stretches gs os end x y k e r = (r .0, rw (← e) (r .1))
 to-rule Signals gs os end x y k e r = (r .0, rw (← e) (r .1))
 
-pub from-rule : (t : Table) (gs : List ℤ) (os : List ℕ) (end x y k : ℕ) → Same t gs os k y → Rule t gs os end x k → Keeps t end x y
+pub from-rule : (t : Table) (gs : List ℤ) (os : List ℕ) (end x y k : ℕ) → Same t gs os k y → Rule t gs os end x k → KeepsItself t end x y
 from-rule Stretches gs os end x y k e r = (r .0, rw e (r .1))
 from-rule Signals gs os end x y k e r = (r .0, rw e (r .1))

@@ -6,9 +6,9 @@ use mir.ValLaws.{toZ-ofZ}
 use native.Mathlib.Omega.{arith}
 use Rattle.train.specs.Gradient.{gradientOf}
 use Rattle.sheet.proofs.Complement.{complement-fits}
-use Rattle.writing.proofs.Bits.{fall-fits, down-is, up-is}
-use Rattle.writing.proofs.fields.bits.Statement.{statement}
-use Rattle.writing.proofs.fields.bits.Tie as tie
+use Rattle.listing.proofs.Halves.{fall-fits, down-is, up-is}
+use Rattle.listing.proofs.bits.Statement.{statement}
+use Rattle.listing.proofs.bits.Tie as tie
 
 is : (c : tie.After-gradient-of) → c .gradient-of .result ≡ gradientOf (c .before .args .z)
 is c = rw (toZ-ofZ w32 (c .before .args .z) (c .before .fits .z)) at (c .gradient-of .ensures)
