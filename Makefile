@@ -7,6 +7,7 @@ example: archives
 
 bench: archives
 	$(run) step
+	$(run) sheet
 	$(run) wide
 
 archives:

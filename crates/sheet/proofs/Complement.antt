@@ -50,3 +50,8 @@ too-steep y h k m = go (ltb y 32768) refl
     go : (b : Bool) → ltb y 32768 ≡ b → ⊥
     go true e = let r = (rw (signed-up y (ltb-true y 32768 e)) at m) .rise in omega arith
     go false e = let r = (rw (signed-down y (ltb-false y 32768 e)) at m) .fall in omega arith
+
+-- which fit 16 bits
+pub moderate-fits : (z : ℤ) → Moderate (gradientOf z) → SFits w16 z
+moderate-fits (pos n) m = record { sfits = omega (arith, m .rise) }
+moderate-fits (negsuc n) m = record { sfits = omega (arith, m .fall) }

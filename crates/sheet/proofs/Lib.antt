@@ -4,3 +4,4 @@ pub mod Deciding
 pub mod Kept
 pub mod RoundTrip
 pub mod Writable
+mod Example

@@ -4,11 +4,9 @@ use mathlib.Core.Bool.{true}
 use mathlib.Core.List.{List, _++_}
 use Prim.Native.Nat.{ℕ, zero, suc, _+_, _*_, _<_}
 use native.Mathlib.Omega.{arith}
-use lib.IntN.{ℤ, pos, negsuc}
+use lib.IntN.{pos}
 use lib.ListN.{length, getD, length-append}
 use lib.Seq.{take-all}
-use mir.Syntax.{w16}
-use mir.Val.{SFits}
 use Rattle.lists.specs.Counted.{upTo}
 use Rattle.lists.proofs.Places.{places-length, places-at, places-of}
 use Rattle.train.specs.Gradient.{gradientOf, Moderate}
@@ -17,7 +15,7 @@ use Rattle.sheet.specs.Line.{Line}
 use Rattle.sheet.specs.Sheet.{stretchOffset, signalOffset, sheetLength, lineOf, accepted, header, records, bytesOf}
 use Rattle.sheet.specs.Fields.{Fields, listed, sheetOf, fieldsOf}
 use Rattle.sheet.specs.Records.{Headed, Along}
-use Rattle.sheet.proofs.Complement.{complement-signed, signed-complement}
+use Rattle.sheet.proofs.Complement.{complement-signed, signed-complement, moderate-fits}
 use Rattle.sheet.proofs.Kept.{Kept, keeps-of, headed-of, accepted-is}
 use Rattle.sheet.proofs.Parts.{part, part-join, half, two-bytes, four-bytes, table-bytes, two, four, u16-behind, u32-behind, u16-before, u32-before, records-length, first-back, second-back}
 
@@ -60,10 +58,6 @@ same-rules l m some a h =
       stretches = rw (← a .stretches) (same-along (l .start) (m .start) _ _ (l .stretches) (a .start) (λ k j r. rw (← a .start k j, ← a .end, ← a .gradient k j) r) (h .stretches));
       signals = rw (← a .signals) (same-along (l .place) (m .place) _ _ (l .signals) (a .place) (λ k j r. rw (← a .place k j, ← a .end, ← a .overlap k j) r) (h .signals));
     }
-
-moderate-fits : (z : ℤ) → Moderate (gradientOf z) → SFits w16 z
-moderate-fits (pos n) m = record { sfits = omega (arith, m .rise) }
-moderate-fits (negsuc n) m = record { sfits = omega (arith, m .fall) }
 
 pub header-length : (n m end : ℕ) → length (header n m end) ≡ 20
 unfolding bytes2 bytes4

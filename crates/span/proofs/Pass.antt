@@ -22,13 +22,16 @@ pub reach-last : (l : Line) (k : ℕ) → l .stretches ≤ suc k → reach l k �
 reach-last l k h = simp (le-ltb (suc k) (l .stretches) h)
 
 -- a later stretch starts later
-pub later : (x : ℕ → ℕ) (R : ℕ → Type 0) (n : ℕ) → Along x R n → (i j : ℕ) → i < j → j < n → x i < x j
+later : (x : ℕ → ℕ) (R : ℕ → Type 0) (n : ℕ) → Along x R n → (i j : ℕ) → i < j → j < n → x i < x j
 later x R n a i zero h l = absurd (let z : i < 0 = h in omega arith)
 later x R n a i (suc j) h l = go (λ m. later x R n a i j m (omega arith)) (ltb i j) refl
   where
     go : (i < j → x i < x j) → (b : Bool) → ltb i j ≡ b → x i < x (suc j)
     go ih true e = let p = ih (ltb-true i j e) in let q = a .rising j l in omega arith
     go ih false e = let k : i ≡ j = omega (arith, ltb-false i j e) in rw k (a .rising j l)
+
+pub starts-later : (l : Line) → Kept l → (i j : ℕ) → i < j → j < l .stretches → l .start i < l .start j
+starts-later l h = later (l .start) _ (l .stretches) (h .stretches)
 
 -- a stretch that starts before the span's end and reaches past its start
 pub record Touches (l : Line) (from to j : ℕ) : Type 0 where
@@ -46,9 +49,6 @@ abbrev pub cut : Line → ℕ → ℕ → Line
 cut l to k = record { stretches = k; signals = 0; end = to; start = l .start; gradient = l .gradient; place = l .place; overlap = l .overlap }
 
 module _ (l : Line) (h : Kept l) (from to : ℕ) (ahead : from < to) where
-  starts-later : (i j : ℕ) → i < j → j < l .stretches → l .start i < l .start j
-  starts-later = later (l .start) _ (l .stretches) (h .stretches)
-
   positive : (k : ℕ) → from < l .start k → 0 < k
   positive zero s = absurd (let z = h .origin in omega arith)
   positive (suc k) s = omega arith
@@ -86,7 +86,7 @@ module _ (l : Line) (h : Kept l) (from to : ℕ) (ahead : from < to) where
           absurd (go′ (ltb (suc j) k) refl i r)
         where
           go′ : (c : Bool) → ltb (suc j) k ≡ c → j < k → from < l .start (suc j) → ⊥
-          go′ true d i r = let q = starts-later (suc j) k (ltb-true (suc j) k d) n in omega arith
+          go′ true d i r = let q = starts-later l h (suc j) k (ltb-true (suc j) k d) n in omega arith
           go′ false d i r = let q : suc j ≡ k = omega (arith, ltb-false (suc j) k d) in let r′ : from < l .start k = rw (← q) r in omega arith
       early p j t false e = let i : j ≡ k = omega (arith, ltb-false j k e, t .number) in rw i (omega arith)
 
@@ -146,7 +146,7 @@ module _ (l : Line) (h : Kept l) (from to : ℕ) (ahead : from < to) where
         within false e = absurd (beyond (ltb k j) refl (ltb-false j k e))
           where
             beyond : (b : Bool) → ltb k j ≡ b → k ≤ j → ⊥
-            beyond true f i = let q = starts-later k j (ltb-true k j f) (m .held .number) in let d = done (omega (arith, m .held .number)) in omega (arith, m .held .from, m .last)
+            beyond true f i = let q = starts-later l h k j (ltb-true k j f) (m .held .number) in let d = done (omega (arith, m .held .number)) in omega (arith, m .held .from, m .last)
             beyond false f i = let q : k ≡ j = omega (arith, ltb-false k j f) in let d = done (omega (arith, m .held .number)) in let s : l .start k ≤ m .point = rw q (m .held .from) in omega (arith, m .last)
 
         past : (b : Bool) → ltb (suc j) k ≡ b → from < reach (cut l to k) j

@@ -13,7 +13,7 @@ use Rattle.sheet.proofs.Kept.{Kept}
 use Rattle.span.specs.Least.{_≼_, lesser, slope, reach, Holds, slopeUpTo, slopeAt, leastOf, Meets, LeastOver}
 use Rattle.span.proofs.Order.{≼-trans, lesser-first, lesser-second, lesser-one, ≼-same}
 use Rattle.span.specs.Pass.{followed}
-use Rattle.span.proofs.Pass.{reach-next, reach-last, later, cut, Best, onward, some-meets, none-less}
+use Rattle.span.proofs.Pass.{reach-next, reach-last, starts-later, cut, Best, onward, some-meets, none-less}
 
 -- the definition's least is at most each point's gradient, and is that of some point
 module _ (l : Line) (from : ℕ) where
@@ -43,14 +43,11 @@ same-least l m from zero h = ap (slopeAt l) (sym (zero-more from)) ∙ h 0 (omeg
 same-least l m from (suc n) h = rw (same-least l m from n (λ i k. h i (omega arith)), h (suc n) (omega arith))
 
 module _ (l : Line) (h : Kept l) where
-  starts-later : (i j : ℕ) → i < j → j < l .stretches → l .start i < l .start j
-  starts-later = later (l .start) _ (l .stretches) (h .stretches)
-
   at-least : (i j : ℕ) → i ≤ j → j < l .stretches → l .start i ≤ l .start j
   at-least i j a n = go (ltb i j) refl
     where
       go : (b : Bool) → ltb i j ≡ b → l .start i ≤ l .start j
-      go true e = let q = starts-later i j (ltb-true i j e) n in omega arith
+      go true e = let q = starts-later l h i j (ltb-true i j e) n in omega arith
       go false e = let q : i ≡ j = omega (arith, ltb-false i j e) in rw q (omega arith)
 
   -- a point's gradient is that of the stretch that holds it

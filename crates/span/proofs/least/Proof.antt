@@ -5,16 +5,15 @@ use denote.Ref.{now}
 use mathlib.Core.Bool.{true}
 use mathlib.Core.List.{List}
 use mathlib.Core.Path.{_≡_, sym, ap, _∙_, subst}
-use lib.IntN.{ℤ, pos, negsuc}
 use mir.Syntax.{w32}
-use mir.Val.{SFits}
 use mir.ValLaws.{toZ-ofZ}
 use native.Mathlib.Numerals.{add-one}
 use native.Mathlib.Omega.{arith}
-use Rattle.train.specs.Gradient.{gradientOf, Moderate}
+use Rattle.train.specs.Gradient.{gradientOf}
 use Rattle.reading.specs.declared.mark.Move.{Move}
 use Rattle.reading.specs.Answer.{stepOn}
 use Rattle.sheet.specs.Sheet.{lineOf, accepted}
+use Rattle.sheet.proofs.Complement.{moderate-fits}
 use Rattle.sheet.proofs.Kept.{Kept, headed-of}
 use Rattle.reading.proofs.Walk.{on-line, off-line, step-on}
 use Rattle.span.specs.Least.{slope}
@@ -22,10 +21,6 @@ use Rattle.span.specs.Pass.{followed}
 use Rattle.span.proofs.Points.{Passed, passed-none, passed-more, passed-all}
 use Rattle.span.proofs.least.Statement.{statement}
 use Rattle.span.proofs.least.Tie as tie
-
-small-fits : (z : ℤ) → Moderate (gradientOf z) → SFits w32 z
-small-fits (pos n) m = record { sfits = omega (arith, m .rise) }
-small-fits (negsuc n) m = record { sfits = omega (arith, m .fall) }
 
 kept : (s : List ℕ) → accepted s ≡ true → Kept (lineOf s)
 kept s h = headed-of s h .1
@@ -60,8 +55,8 @@ slope-is c =
     let l = i .before .before in
     let b = l .before .before .before in
     let z : i .before .step .result .gradient ≡ lineOf (now (b .args .s)) .gradient (l .loop .mark .next) = ap (λ (r : Move). r .gradient) (found i) in
-    let f = small-fits _ (kept _ (b .pre .0) .stretches .each (l .loop .mark .next) (on i) .1) in
-    c .gradient-of .ensures ∙ ap gradientOf (toZ-ofZ w32 _ (rw z f) ∙ z)
+    let f = moderate-fits (lineOf (now (b .args .s)) .gradient (l .loop .mark .next)) (kept _ (b .pre .0) .stretches .each (l .loop .mark .next) (on i) .1) in
+    c .gradient-of .ensures ∙ ap gradientOf (toZ-ofZ w32 _ (rw z (record { sfits = omega (arith, f .sfits) })) ∙ z)
 
 returns : tie.Need-returns Inv-loop μ-loop
 returns c =

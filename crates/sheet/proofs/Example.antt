@@ -1,0 +1,33 @@
+-- Document 01's example sheet, by the definitions: it is accepted, has these fields, and they write it.
+use mathlib.Core.Path.{_≡_, refl}
+use mathlib.Core.Bool.{true}
+use mathlib.Core.List.{List, [], _∷_}
+use Prim.Native.Nat.{ℕ}
+use lib.IntN.{pos}
+use Rattle.lists.specs.Counted.{upTo, every, allHold}
+use Rattle.sheet.specs.Bytes.{u16At, u32At, bytes2, bytes4, signed, complement}
+use Rattle.sheet.specs.Sheet.{keeps, accepted, records, bytesOf}
+use Rattle.sheet.specs.Fields.{Fields, sheetOf, fieldsOf}
+
+-- 01 00 02 00 14 00 00 00 1A 00 00 00 26 00 00 00 D0 07 00 00, a stretch, two signals
+abbrev example : List ℕ
+example =
+    1 ∷ 0 ∷ 2 ∷ 0 ∷ 20 ∷ 0 ∷ 0 ∷ 0 ∷ 26 ∷ 0 ∷ 0 ∷ 0 ∷ 38 ∷ 0 ∷ 0 ∷ 0 ∷ 208 ∷ 7 ∷ 0 ∷ 0
+    ∷ 0 ∷ 0 ∷ 0 ∷ 0 ∷ 0 ∷ 0
+    ∷ 0 ∷ 0 ∷ 0 ∷ 0 ∷ 120 ∷ 0
+    ∷ 33 ∷ 4 ∷ 0 ∷ 0 ∷ 0 ∷ 0 ∷ []
+
+abbrev fields : Fields
+fields = record { starts = 0 ∷ []; gradients = pos 0 ∷ []; places = 0 ∷ 1057 ∷ []; overlaps = 120 ∷ 0 ∷ []; end = 2000 }
+
+pub example-accepted : accepted example ≡ true
+unfolding accepted keeps allHold every u32At u16At signed
+example-accepted = refl
+
+pub example-fields : fieldsOf example ≡ fields
+unfolding upTo u32At u16At signed
+example-fields = refl
+
+pub example-written : sheetOf fields ≡ example
+unfolding bytesOf records bytes4 bytes2 complement
+example-written = refl
