@@ -7,7 +7,7 @@ ghost use Rattle.curve.specs.declared.Curve.the-variants.{Ebi, Sbi, W, P};
 ghost use Rattle.step.specs.Answer.{StepAnswers, RowAnswers};
 ghost use Rattle.ceilings.specs.Ceilings.{limitsOf};
 ghost use Rattle.ceilings.specs.Paper.{AsPrinted};
-ghost use Rattle.sheet.specs.Fields.{Fields};
+ghost use Rattle.sheet.specs.Fields.{fourLists};
 ghost use Rattle.reading.specs.Answer.{stretchOf, signalOf, moveOf, Again};
 ghost use Rattle.writing.specs.Answer.{Writes};
 ghost use Rattle.approach.specs.Entered.{trainOf};
@@ -119,7 +119,7 @@ pub extern "C" fn approach_sheet_write(
     line_end: u32,
     sheet: &mut [u8],
 ) -> Written
-    ensures { λ r. ⌜ Writes (record { starts = now (starts .entry); gradients = now (gradients .entry); places = now (places .entry); overlaps = now (overlaps .entry); end = «line_end» }) (now (sheet .entry)) r (now (sheet .exit)) ⌝ }
+    ensures { λ r. ⌜ Writes (fourLists (now (starts .entry)) (now (gradients .entry)) (now (places .entry)) (now (overlaps .entry)) «line_end») (now (sheet .entry)) r (now (sheet .exit)) ⌝ }
 {
     writing::write(starts, gradients, places, overlaps, Metre(line_end), sheet)
 }

@@ -7,7 +7,7 @@ ghost use mir.Val.{SFits};
 ghost use Rattle.sheet.specs.Bytes.{complement};
 ghost use Rattle.sheet.specs.Line.{farthestEnd};
 ghost use Rattle.sheet.specs.Records.{Decides, Along};
-ghost use Rattle.sheet.specs.Fields.{writable};
+ghost use Rattle.sheet.specs.Fields.{fourLists, writable};
 ghost use Rattle.listing.specs.Lists.{countOf, secondOf, Same, Rule};
 use sheet::Table;
 use sheet::check::counts_keep;
@@ -55,7 +55,7 @@ fn records_keep(table: Table, firsts: &[u32], gradients: &[i16], overlaps: &[u16
 
 // The paired lists are as long as each other, and every rule is kept.
 pub fn keep(starts: &[u32], gradients: &[i16], places: &[u32], overlaps: &[u16], end: u32) -> bool
-    ensures { λ r. ⌜ r ≡ writable (record { starts = now (starts .entry); gradients = now (gradients .entry); places = now (places .entry); overlaps = now (overlaps .entry); end = end }) ⌝ }
+    ensures { λ r. ⌜ r ≡ writable (fourLists (now (starts .entry)) (now (gradients .entry)) (now (places .entry)) (now (overlaps .entry)) end) ⌝ }
 {
     if gradients.len() != starts.len() {
         return false;

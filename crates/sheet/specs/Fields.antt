@@ -17,6 +17,9 @@ pub record Fields : Type 0 where
   pub overlaps : List ℕ
   pub end : ℕ
 
+abbrev pub fourLists : List ℕ → List ℤ → List ℕ → List ℕ → ℕ → Fields
+fourLists starts gradients places overlaps end = record { starts = starts; gradients = gradients; places = places; overlaps = overlaps; end = end }
+
 -- the line that they describe
 abbrev pub listed : Fields → Line
 listed f =
@@ -41,7 +44,13 @@ sheetOf f = bytesOf (listed f)
 abbrev pub fieldsOf : List ℕ → Fields
 fieldsOf s =
     let l = lineOf s in
-    record { starts = upTo (l .start) (l .stretches); gradients = upTo (l .gradient) (l .stretches); places = upTo (l .place) (l .signals); overlaps = upTo (l .overlap) (l .signals); end = l .end }
+    record {
+      starts = upTo (l .start) (l .stretches);
+      gradients = upTo (l .gradient) (l .stretches);
+      places = upTo (l .place) (l .signals);
+      overlaps = upTo (l .overlap) (l .signals);
+      end = l .end;
+    }
 
 -- what the check of a sheet promises: its answer, and that an accepted sheet's fields write its bytes
 pub record Checked (s : List ℕ) (r : Bool) : Type 0 where

@@ -1,4 +1,5 @@
 // Writing a line sheet from its fields into a lent buffer. Document 01, "Line sheet".
+ghost use Rattle.sheet.specs.Fields.{fourLists};
 ghost use Rattle.writing.specs.Answer.{Writes};
 use train::Metre;
 use train::Written;
@@ -14,7 +15,7 @@ pub fn write(
     end: Metre,
     sheet: &mut [u8],
 ) -> Written
-    ensures { λ r. ⌜ Writes (record { starts = now (starts .entry); gradients = now (gradients .entry); places = now (places .entry); overlaps = now (overlaps .entry); end = end .0 }) (now (sheet .entry)) r (now (sheet .exit)) ⌝ }
+    ensures { λ r. ⌜ Writes (fourLists (now (starts .entry)) (now (gradients .entry)) (now (places .entry)) (now (overlaps .entry)) (end .0)) (now (sheet .entry)) r (now (sheet .exit)) ⌝ }
 {
     let last = end.0;
     if !listing::keep(starts, gradients, places, overlaps, last) {

@@ -8,7 +8,7 @@ ghost use Rattle.lists.specs.Put.{put};
 ghost use Rattle.sheet.specs.Bytes.{bytes2, bytes4};
 ghost use Rattle.sheet.specs.Line.{mostStretches, mostSignals};
 ghost use Rattle.sheet.specs.Sheet.{sheetLength, header, records};
-ghost use Rattle.sheet.specs.Fields.{writable, sheetOf};
+ghost use Rattle.sheet.specs.Fields.{fourLists, writable, sheetOf};
 ghost use Rattle.listing.specs.Lists.{countOf, secondOf};
 use listing::second;
 use sheet::Table;
@@ -85,8 +85,8 @@ pub fn whole(
     end: u32,
     out: &mut [u8],
 )
-    requires { ⌜ (writable (record { starts = now starts; gradients = now gradients; places = now places; overlaps = now overlaps; end = end }) ≡ true) × (sheetLength (length (now starts)) (length (now places)) ≤ length (now out)) ⌝ }
-    ensures { λ r. ⌜ now (out .exit) ≡ put 0 (sheetOf (record { starts = now (starts .entry); gradients = now (gradients .entry); places = now (places .entry); overlaps = now (overlaps .entry); end = end })) (now (out .entry)) ⌝ }
+    requires { ⌜ (writable (fourLists (now starts) (now gradients) (now places) (now overlaps) end) ≡ true) × (sheetLength (length (now starts)) (length (now places)) ≤ length (now out)) ⌝ }
+    ensures { λ r. ⌜ now (out .exit) ≡ put 0 (sheetOf (fourLists (now (starts .entry)) (now (gradients .entry)) (now (places .entry)) (now (overlaps .entry)) end)) (now (out .entry)) ⌝ }
 {
     header(starts.len(), places.len(), end, out);
     records(Table::Stretches, starts, gradients, overlaps, 20, out);
