@@ -1,11 +1,12 @@
 -- Rules that all hold, taken apart and put together.
 use mathlib.Core.Path.{_≡_, refl, sym, subst}
 use mathlib.Core.Bool.{Bool, true, false, _&&_}
+use mathlib.Core.Logic.{⊎-elim}
 use mathlib.Core.List.{List, [], _∷_}
 use Prim.Native.Nat.{ℕ, zero, suc, _<_}
 use native.Mathlib.Omega.{arith}
-use borrow.Author.Tests.{ltb-true, ltb-false}
-use lib.Dec.{T, ltb}
+use lib.Dec.{T}
+use Rattle.lists.proofs.Split.{earlier}
 use Rattle.lists.specs.Counted.{every, allHold}
 
 pub no : {A : Type 0} → false ≡ true → A
@@ -27,11 +28,7 @@ refuted false h = refl
 pub every-at : (n : ℕ) (rule : ℕ → Bool) → every n rule ≡ true → (k : ℕ) → k < n → rule k ≡ true
 unfolding every
 every-at zero rule e k h = absurd (let z : k < 0 = h in omega arith)
-every-at (suc n) rule e k h = go (λ l. every-at n rule (and-left _ _ e) k l) (ltb k n) refl
-  where
-    go : (k < n → rule k ≡ true) → (b : Bool) → ltb k n ≡ b → rule k ≡ true
-    go ih true t = ih (ltb-true k n t)
-    go ih false t = let j : n ≡ k = omega (arith, ltb-false k n t) in rw (← j) (and-right (every n rule) (rule n) e)
+every-at (suc n) rule e k h = ⊎-elim (λ l. every-at n rule (and-left _ _ e) k l) (λ j. rw j (and-right (every n rule) (rule n) e)) (earlier k n h)
 
 pub every-of : (n : ℕ) (rule : ℕ → Bool) → ((k : ℕ) → k < n → rule k ≡ true) → every n rule ≡ true
 unfolding every

@@ -1,14 +1,13 @@
 -- The list f 0, f 1, .. grown place by place, and read back.
 use mathlib.Core.Path.{_≡_, refl, sym, ap, _∙_}
-use mathlib.Core.Bool.{Bool, true, false}
+use mathlib.Core.Logic.{⊎-elim}
 use mathlib.Core.List.{List, [], _∷_, _++_}
 use Prim.Native.Nat.{ℕ, zero, suc, _+_, _<_}
 use native.Mathlib.Omega.{arith}
 use native.Mathlib.Numerals.{add-one}
-use borrow.Author.Tests.{ltb-true, ltb-false}
-use lib.Dec.{ltb}
 use lib.ListN.{length, take, drop, set, getD, length-append, List·getD-append, take-append-drop}
 use lib.Seq.{take-suc-set, getD-at, ext-getD}
+use Rattle.lists.proofs.Split.{earlier}
 use Rattle.lists.specs.Counted.{upTo}
 
 module _ {A : Type 0} where
@@ -34,15 +33,11 @@ module _ {A : Type 0} where
   pub places-at : (f : ℕ → A) (n i : ℕ) (d : A) → i < n → getD (upTo f n) i d ≡ f i
   unfolding upTo
   places-at f zero i d h = absurd (let z : i < 0 = h in omega arith)
-  places-at f (suc n) i d h = go (λ l. places-at f n i d l) (ltb i n) refl
-    where
-      go : (i < n → getD (upTo f n) i d ≡ f i) → (b : Bool) → ltb i n ≡ b → getD (upTo f n ++ (f n ∷ [])) i d ≡ f i
-      go ih true e =
-          let l : i < length (upTo f n) = rw (places-length f n) (ltb-true i n e) in
-          List·getD-append (upTo f n) (f n ∷ []) d i l ∙ ih (ltb-true i n e)
-      go ih false e =
-          let j : n ≡ i = omega (arith, ltb-false i n e) in
-          getD-at (upTo f n) (f n) [] d i (places-length f n ∙ j) ∙ ap f j
+  places-at f (suc n) i d h =
+      ⊎-elim
+      (λ l. List·getD-append (upTo f n) (f n ∷ []) d i (rw (places-length f n) l) ∙ places-at f n i d l)
+      (λ j. getD-at (upTo f n) (f n) [] d i (places-length f n ∙ sym j) ∙ ap f (sym j))
+      (earlier i n h)
 
   -- and before whatever follows
   pub place-at : (f : ℕ → A) (n i : ℕ) (d : A) (rest : List A) → i < n → getD (upTo f n ++ rest) i d ≡ f i

@@ -2,11 +2,13 @@
 use mathlib.Core.Path.{_≡_, refl, ap, _∙_}
 use mathlib.Core.Bool.{Bool, true, false, cond}
 use mathlib.Core.List.{List}
-use Prim.Native.Nat.{ℕ, zero, suc, _+_, _≤_, _<_}
+use mathlib.Core.Logic.{⊎-elim}
+use Prim.Native.Nat.{ℕ, zero, suc, _≤_, _<_}
 use native.Mathlib.Omega.{arith}
 use native.Mathlib.Numerals.{add-one}
 use borrow.Author.Tests.{lt-ltb, le-ltb, ltb-true, ltb-false}
 use lib.Dec.{ltb}
+use Rattle.lists.proofs.Split.{below}
 use Rattle.sheet.specs.Line.{Line}
 use Rattle.sheet.specs.Sheet.{lineOf, accepted}
 use Rattle.reading.specs.declared.mark.Mark.{Mark}
@@ -52,14 +54,11 @@ module _ (s : List ℕ) (sheet : accepted s ≡ true) where
   behind : (k : ℕ) → lineOf s .stretches ≤ k → afterMoves s k ≡ at (lineOf s .stretches)
   unfolding afterMoves
   behind zero h = ap at (let z : 0 ≡ lineOf s .stretches = omega arith in z)
-  behind (suc k) h = go (λ l. behind k l) (ltb k (lineOf s .stretches)) refl
-    where
-      go : (lineOf s .stretches ≤ k → afterMoves s k ≡ at (lineOf s .stretches)) → (b : Bool) → ltb k (lineOf s .stretches) ≡ b → moveOf s (afterMoves s k) .mark ≡ at (lineOf s .stretches)
-      go ih true e =
-          let l = ltb-true k (lineOf s .stretches) e in
-          ap (λ m. moveOf s m .mark) (before k (omega arith)) ∙ ap (λ (r : Move). r .mark) (move-on (at k) l) ∙ ap at (let z : k + 1 ≡ lineOf s .stretches = omega arith in z)
-      go ih false e =
-          ap (λ m. moveOf s m .mark) (ih (ltb-false k (lineOf s .stretches) e)) ∙ ap (λ (r : Move). r .mark) (stays (at (lineOf s .stretches)) (omega arith))
+  behind (suc k) h =
+      ⊎-elim
+      (λ l. before (suc k) l ∙ ap at (let z : suc k ≡ lineOf s .stretches = omega arith in z))
+      (λ l. ap (λ m. moveOf s m .mark) (behind k l) ∙ ap (λ (r : Move). r .mark) (stays (at (lineOf s .stretches)) (omega arith)))
+      (below k (lineOf s .stretches))
 
   pub in-order : (k : ℕ) → k < lineOf s .stretches → moveOf s (afterMoves s k) ≡ stepOn (lineOf s) (at k)
   in-order k h = ap (moveOf s) (before k (omega arith)) ∙ move-on (at k) h

@@ -1,13 +1,13 @@
 -- Two's complement: forth and back, and which numbers stand for -35 to 35.
-use mathlib.Core.Path.{_≡_, refl, ap, _∙_}
-use mathlib.Core.Bool.{Bool, true, false}
+use mathlib.Core.Path.{_≡_, ap, _∙_}
+use mathlib.Core.Logic.{⊎-elim}
 use Prim.Native.Nat.{ℕ, _-_, _≤_, _<_}
 use native.Mathlib.Omega.{arith}
-use borrow.Author.Tests.{lt-ltb, le-ltb, ltb-true, ltb-false}
-use lib.Dec.{ltb}
+use borrow.Author.Tests.{lt-ltb, le-ltb}
 use lib.IntN.{ℤ, pos, negsuc}
 use mir.Syntax.{w16}
 use mir.Val.{SFits}
+use Rattle.lists.proofs.Split.{below}
 use Rattle.train.specs.Gradient.{gradientOf, Moderate}
 use Rattle.sheet.specs.Bytes.{signed, complement}
 
@@ -21,11 +21,9 @@ signed-down x h = simp (le-ltb x 32768 h)
 
 pub complement-signed : (x : ℕ) → x < 65536 → complement (signed x) ≡ x
 unfolding complement
-complement-signed x h = go (ltb x 32768) refl
-  where
-    go : (b : Bool) → ltb x 32768 ≡ b → complement (signed x) ≡ x
-    go true e = ap complement (signed-up x (ltb-true x 32768 e))
-    go false e = ap complement (signed-down x (ltb-false x 32768 e)) ∙ (let z : 65535 - (65535 - x) ≡ x = omega arith in z)
+complement-signed x h =
+    let z : 65535 - (65535 - x) ≡ x = omega arith in
+    ⊎-elim (λ l. ap complement (signed-up x l)) (λ l. ap complement (signed-down x l) ∙ z) (below x 32768)
 
 pub signed-complement : (z : ℤ) → SFits w16 z → signed (complement z) ≡ z
 unfolding complement
@@ -45,11 +43,11 @@ pub small-fall : (y : ℕ) → 65501 ≤ y → Moderate (gradientOf (signed y))
 small-fall y h = rw (signed-down y (omega arith)) (record { rise = omega arith; fall = omega arith })
 
 pub too-steep : (y : ℕ) → 35 < y → y < 65501 → Moderate (gradientOf (signed y)) → ⊥
-too-steep y h k m = go (ltb y 32768) refl
-  where
-    go : (b : Bool) → ltb y 32768 ≡ b → ⊥
-    go true e = let r = (rw (signed-up y (ltb-true y 32768 e)) at m) .rise in omega arith
-    go false e = let r = (rw (signed-down y (ltb-false y 32768 e)) at m) .fall in omega arith
+too-steep y h k m =
+    ⊎-elim
+    (λ l. let r = (rw (signed-up y l) at m) .rise in omega arith)
+    (λ l. let r = (rw (signed-down y l) at m) .fall in omega arith)
+    (below y 32768)
 
 -- which fit 16 bits
 pub moderate-fits : (z : ℤ) → Moderate (gradientOf z) → SFits w16 z

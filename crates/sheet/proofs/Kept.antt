@@ -1,14 +1,16 @@
 -- A line keeps the paper's rules just where its counts, its first start and the records of both tables keep theirs.
-use mathlib.Core.Path.{_≡_, refl}
-use mathlib.Core.Bool.{Bool, true, false, and-true}
+use mathlib.Core.Path.{_≡_, sym, subst}
+use mathlib.Core.Bool.{true, and-true}
 use mathlib.Core.List.{List, [], _∷_, _++_}
+use mathlib.Core.Logic.{⊎-elim}
 use Prim.Native.Nat.{ℕ, zero, suc, _+_, _-_, _≤_, _<_}
 use native.Mathlib.Omega.{arith}
-use borrow.Author.Tests.{lt-ltb, ltb-true, ltb-false, le-leb, leb-true, eq-eqb, eqb-true}
-use lib.Dec.{leb, ltb}
+use borrow.Author.Tests.{lt-ltb, ltb-true, le-leb, leb-true, eq-eqb, eqb-true}
+use lib.Dec.{leb}
 use lib.IntN.{ℤ}
 use Rattle.lists.specs.Counted.{allHold}
 use Rattle.lists.proofs.Holding.{and-left, and-right, every-at, every-of, each-of, all-of}
+use Rattle.lists.proofs.Split.{earlier}
 use Rattle.train.specs.Gradient.{gradientOf, Moderate}
 use Rattle.sheet.specs.declared.Table.{Table}
 use Rattle.sheet.specs.declared.Table.the-variants.{Stretches, Signals}
@@ -116,18 +118,9 @@ module _ (x : ℕ → ℕ) (Rule : ℕ → Type 0) where
   unfolding lowest
   one-more k a low here =
       record {
-        rising = λ i h. go k a low i h (ltb (suc i) k) refl;
-        each = λ i h. to i h (ltb i k) refl;
+        rising = λ i h. ⊎-elim (a .rising i) (λ j. subst (λ (m : ℕ). lowest x m ≤ x m) (sym j) low) (earlier (suc i) k h);
+        each = λ i h. ⊎-elim (a .each i) (λ j. rw j here) (earlier i k h);
       }
-    where
-      go : (k : ℕ) → Along x Rule k → lowest x k ≤ x k → (i : ℕ) → suc i < suc k → (b : Bool) → ltb (suc i) k ≡ b → x i < x (suc i)
-      go k a low i h true e = a .rising i (ltb-true (suc i) k e)
-      go zero a low i h false e = absurd (let z : suc i < suc 0 = h in omega arith)
-      go (suc k) a low i h false e = let j : i ≡ k = omega (arith, ltb-false (suc i) (suc k) e) in rw j low
-
-      to : (i : ℕ) → i < suc k → (b : Bool) → ltb i k ≡ b → Rule i
-      to i h true e = a .each i (ltb-true i k e)
-      to i h false e = let j : i ≡ k = omega (arith, ltb-false i k e) in rw j here
 
   pub at-each : (n : ℕ) → Along x Rule n → (k : ℕ) → k < n → (lowest x k ≤ x k) × Rule k
   unfolding lowest

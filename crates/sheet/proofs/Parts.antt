@@ -1,14 +1,13 @@
 -- Numbers in bytes, forth and back, wherever they lie in a list.
 use mathlib.Core.Path.{_≡_, refl, sym, ap, _∙_}
-use mathlib.Core.Bool.{Bool, true, false}
 use mathlib.Core.List.{List, _++_}
+use mathlib.Core.Logic.{⊎-elim}
 use Prim.Native.Nat.{ℕ, zero, suc, _+_, _*_, _/_, _%_, _≤_, _<_}
 use native.Mathlib.Omega.{arith}
 use native.Mathlib.Numerals.{add-one}
-use borrow.Author.Tests.{ltb-true, ltb-false}
-use lib.Dec.{ltb}
 use lib.ListN.{length, getD, take, drop, length-append, List·getD-append}
 use lib.Seq.{drop-cons, drop-drop, take-add, getD-append-add}
+use Rattle.lists.proofs.Split.{earlier}
 use Rattle.sheet.specs.Bytes.{u16At, u32At, bytes2, bytes4}
 use Rattle.sheet.specs.Sheet.{records}
 
@@ -94,23 +93,21 @@ module _ (f g : ℕ → ℕ) where
   pub first-back : (n k : ℕ) → k < n → u32At (records f g n) (6 * k) ≡ f k
   unfolding records
   first-back zero k h = absurd (let z : k < 0 = h in omega arith)
-  first-back (suc n) k h = go (λ l. first-back n k l) (ltb k n) refl
-    where
-      go : (k < n → u32At (records f g n) (6 * k) ≡ f k) → (b : Bool) → ltb k n ≡ b → u32At (records f g n ++ (bytes4 (f n) ++ bytes2 (g n))) (6 * k) ≡ f k
-      go ih true e = u32-before (records f g n) _ (6 * k) (let l = ltb-true k n e in omega (arith, records-length f g n)) ∙ ih (ltb-true k n e)
-      go ih false e =
-          let j : k ≡ n = omega (arith, ltb-false k n e) in
-          let i : 6 * n ≡ length (records f g n) + 0 = omega (arith, records-length f g n) in
-          rw j (ap (u32At (records f g n ++ (bytes4 (f n) ++ bytes2 (g n)))) i ∙ u32-behind (records f g n) _ 0 ∙ four-back (f n) (bytes2 (g n)))
+  first-back (suc n) k h =
+      let e = records-length f g n in
+      let i : 6 * n ≡ length (records f g n) + 0 = omega arith in
+      ⊎-elim
+      (λ l. u32-before (records f g n) _ (6 * k) (omega arith) ∙ first-back n k l)
+      (λ j. rw j (ap (u32At (records f g n ++ (bytes4 (f n) ++ bytes2 (g n)))) i ∙ u32-behind (records f g n) _ 0 ∙ four-back (f n) (bytes2 (g n))))
+      (earlier k n h)
 
   pub second-back : (n k : ℕ) → k < n → u16At (records f g n) (6 * k + 4) ≡ g k
   unfolding records bytes4 bytes2
   second-back zero k h = absurd (let z : k < 0 = h in omega arith)
-  second-back (suc n) k h = go (λ l. second-back n k l) (ltb k n) refl
-    where
-      go : (k < n → u16At (records f g n) (6 * k + 4) ≡ g k) → (b : Bool) → ltb k n ≡ b → u16At (records f g n ++ (bytes4 (f n) ++ bytes2 (g n))) (6 * k + 4) ≡ g k
-      go ih true e = u16-before (records f g n) _ (6 * k + 4) (let l = ltb-true k n e in omega (arith, records-length f g n)) ∙ ih (ltb-true k n e)
-      go ih false e =
-          let j : k ≡ n = omega (arith, ltb-false k n e) in
-          let i : 6 * n + 4 ≡ length (records f g n) + 4 = omega (arith, records-length f g n) in
-          rw j (ap (u16At (records f g n ++ (bytes4 (f n) ++ bytes2 (g n)))) i ∙ u16-behind (records f g n) _ 4 ∙ u16-behind (bytes4 (f n)) (bytes2 (g n)) 0 ∙ two-back (g n))
+  second-back (suc n) k h =
+      let e = records-length f g n in
+      let i : 6 * n + 4 ≡ length (records f g n) + 4 = omega arith in
+      ⊎-elim
+      (λ l. u16-before (records f g n) _ (6 * k + 4) (omega arith) ∙ second-back n k l)
+      (λ j. rw j (ap (u16At (records f g n ++ (bytes4 (f n) ++ bytes2 (g n)))) i ∙ u16-behind (records f g n) _ 4 ∙ u16-behind (bytes4 (f n)) (bytes2 (g n)) 0 ∙ two-back (g n)))
+      (earlier k n h)

@@ -1,11 +1,12 @@
 -- Point by point: which stretch holds a point, and the least over the points of a span.
-use mathlib.Core.Path.{_≡_, refl, sym, ap, _∙_}
+use mathlib.Core.Path.{_≡_, sym, ap, _∙_}
 use mathlib.Core.Bool.{Bool, true, false, cond}
 use mathlib.Core.Logic.{⊎-elim}
 use Prim.Native.Nat.{ℕ, zero, suc, _+_, _-_, _≤_, _<_}
 use native.Mathlib.Omega.{arith}
-use borrow.Author.Tests.{ltb-true, ltb-false, le-leb, lt-leb, leb-true, leb-false}
-use lib.Dec.{leb, ltb}
+use borrow.Author.Tests.{le-leb, lt-leb}
+use lib.Dec.{leb}
+use Rattle.lists.proofs.Split.{below, earlier}
 use Rattle.train.specs.declared.Gradient.{Gradient}
 use Rattle.train.specs.Gradient.{Moderate}
 use Rattle.sheet.specs.Line.{Line}
@@ -13,18 +14,20 @@ use Rattle.sheet.proofs.Kept.{Kept}
 use Rattle.span.specs.Least.{_≼_, lesser, slope, reach, Holds, slopeUpTo, slopeAt, leastOf, Meets, LeastOver}
 use Rattle.span.proofs.Order.{≼-trans, lesser-first, lesser-second, lesser-one, ≼-same}
 use Rattle.span.specs.Pass.{followed}
-use Rattle.span.proofs.Pass.{reach-next, reach-last, starts-later, cut, Best, onward, some-meets, none-less}
+use Rattle.span.proofs.Pass.{reach-next, reach-last, starts-ordered, cut, Best, onward, some-meets, none-less}
 
 -- the definition's least is at most each point's gradient, and is that of some point
 module _ (l : Line) (from : ℕ) where
   below-each : (n i : ℕ) → i ≤ n → leastOf l from n ≼ slopeAt l (from + i)
   unfolding leastOf
   below-each zero i h = let e : from + i ≡ from = omega arith in rw e (omega arith)
-  below-each (suc n) i h = go (λ k. below-each n i k) (leb i n) refl
-    where
-      go : (i ≤ n → leastOf l from n ≼ slopeAt l (from + i)) → (b : Bool) → leb i n ≡ b → lesser (leastOf l from n) (slopeAt l (from + suc n)) ≼ slopeAt l (from + i)
-      go ih true e = ≼-trans _ _ _ (lesser-first (leastOf l from n) (slopeAt l (from + suc n))) (ih (leb-true i n e))
-      go ih false e = let j : i ≡ suc n = omega (arith, leb-false i n e) in rw j (lesser-second (leastOf l from n) (slopeAt l (from + suc n)))
+  below-each (suc n) i h =
+      let least = leastOf l from n in
+      let next = slopeAt l (from + suc n) in
+      ⊎-elim
+      (λ k. ≼-trans (lesser least next) least (slopeAt l (from + i)) (lesser-first least next) (below-each n i (omega arith)))
+      (λ j. rw j (lesser-second least next))
+      (earlier i (suc n) (omega arith))
 
   at-some : (n : ℕ) → (i : ℕ) × ((i ≤ n) × (slopeAt l (from + i) ≡ leastOf l from n))
   unfolding leastOf
@@ -43,30 +46,19 @@ same-least l m from zero h = ap (slopeAt l) (sym (zero-more from)) ∙ h 0 (omeg
 same-least l m from (suc n) h = rw (same-least l m from n (λ i k. h i (omega arith)), h (suc n) (omega arith))
 
 module _ (l : Line) (h : Kept l) where
-  at-least : (i j : ℕ) → i ≤ j → j < l .stretches → l .start i ≤ l .start j
-  at-least i j a n = go (ltb i j) refl
-    where
-      go : (b : Bool) → ltb i j ≡ b → l .start i ≤ l .start j
-      go true e = let q = starts-later l h i j (ltb-true i j e) n in omega arith
-      go false e = let q : i ≡ j = omega (arith, ltb-false i j e) in rw q (omega arith)
-
   -- a point's gradient is that of the stretch that holds it
   up-to : (k p : ℕ) → Holds l k p → (m : ℕ) → k ≤ m → m < l .stretches → slopeUpTo l m p ≡ slope l k
   unfolding slopeUpTo
   up-to k p a zero i n = ap (slope l) (let e : 0 ≡ k = omega arith in e)
-  up-to k p a (suc m) i n = go (λ j. up-to k p a m j (omega arith)) (leb k m) refl
-    where
-      go : (k ≤ m → slopeUpTo l m p ≡ slope l k) → (b : Bool) → leb k m ≡ b → cond (leb (l .start (suc m)) p) (slope l (suc m)) (slopeUpTo l m p) ≡ slope l k
-      go ih true e =
-          let i = leb-true k m e in
-          let r : reach l k ≡ l .start (suc k) = reach-next l k (omega arith) in
-          let q : l .start (suc k) ≤ l .start (suc m) = at-least (suc k) (suc m) (omega arith) n in
-          let b = a .before in
-          simp (lt-leb (l .start (suc m)) p (omega arith)) (ih i)
-      go ih false e =
-          let j : suc m ≡ k = omega (arith, leb-false k m e) in
-          let s : l .start (suc m) ≤ p = rw j (a .from) in
-          simp (le-leb (l .start (suc m)) p s) (ap (slope l) j)
+  up-to k p a (suc m) i n =
+      ⊎-elim
+      (λ e.
+      let r : reach l k ≡ l .start (suc k) = reach-next l k (omega arith) in
+      let q = starts-ordered l h (suc k) (suc m) e n in
+      let b = a .before in
+      simp (lt-leb (l .start (suc m)) p (omega arith)) (up-to k p a m (omega arith) (omega arith)))
+      (λ e. simp (le-leb (l .start (suc m)) p (rw (← e) (a .from))) (ap (slope l) (sym e)))
+      (earlier k (suc m) (omega arith))
 
   pub at-held : (k p : ℕ) → Holds l k p → slopeAt l p ≡ slope l k
   at-held k p a = let n = a .number in up-to k p a (l .stretches - 1) (omega arith) (omega arith)
@@ -74,11 +66,11 @@ module _ (l : Line) (h : Kept l) where
   -- every point of the line is held
   held-up-to : (p m : ℕ) → m < l .stretches → p < reach l m → (k : ℕ) × Holds l k p
   held-up-to p zero n r = (0, record { number = n; from = let o = h .origin in omega arith; before = r })
-  held-up-to p (suc m) n r = go (leb (l .start (suc m)) p) refl (λ q. held-up-to p m (omega arith) q)
-    where
-      go : (b : Bool) → leb (l .start (suc m)) p ≡ b → (p < reach l m → (k : ℕ) × Holds l k p) → (k : ℕ) × Holds l k p
-      go true e ih = (suc m, record { number = n; from = leb-true _ _ e; before = r })
-      go false e ih = ih (rw (reach-next l m n) (leb-false (l .start (suc m)) p e))
+  held-up-to p (suc m) n r =
+      ⊎-elim
+      (λ q. held-up-to p m (omega arith) (rw (reach-next l m n) q))
+      (λ q. (suc m, record { number = n; from = q; before = r }))
+      (below p (l .start (suc m)))
 
   pub held : (p : ℕ) → p < l .end → (k : ℕ) × Holds l k p
   held p e = let some = h .counts .some in held-up-to p (l .stretches - 1) (omega arith) (rw (reach-last l (l .stretches - 1) (omega arith)) e)
