@@ -1,4 +1,4 @@
--- The two bytes of a record as the code takes them from the caller's lists.
+-- The two bytes of a record as the code takes them from the caller's lists. Nobody has to believe this: the promise is `writable`.
 use mathlib.Core.Path.{_≡_}
 use mathlib.Core.List.{List}
 use Prim.Native.Nat.{ℕ, _+_, _≤_, _<_}
@@ -9,6 +9,7 @@ use Rattle.sheet.specs.declared.Table.{Table}
 use Rattle.sheet.specs.declared.Table.the-variants.{Stretches, Signals}
 use Rattle.sheet.specs.Bytes.{signed, complement}
 
+-- how many records a table has by its second list, and the two bytes of its k-th
 abbrev pub countOf : Table → List ℤ → List ℕ → ℕ
 countOf Stretches gradients overlaps = length gradients
 countOf Signals gradients overlaps = length overlaps

@@ -1,13 +1,12 @@
 -- The mark along an accepted sheet: n moves from a fresh one give the stretches 0 to n - 1 in order, then "end" for ever.
 use mathlib.Core.Path.{_≡_, refl, ap, _∙_}
-use mathlib.Core.Bool.{Bool, true, false, cond}
+use mathlib.Core.Bool.{true}
 use mathlib.Core.List.{List}
 use mathlib.Core.Logic.{⊎-elim}
 use Prim.Native.Nat.{ℕ, zero, suc, _≤_, _<_}
 use native.Mathlib.Omega.{arith}
 use native.Mathlib.Numerals.{add-one}
-use borrow.Author.Tests.{lt-ltb, le-ltb, ltb-true, ltb-false}
-use lib.Dec.{ltb}
+use borrow.Author.Tests.{lt-ltb, le-ltb}
 use Rattle.lists.proofs.Split.{below}
 use Rattle.sheet.specs.Line.{Line}
 use Rattle.sheet.specs.Sheet.{lineOf, accepted}
@@ -15,23 +14,19 @@ use Rattle.reading.specs.declared.mark.Mark.{Mark}
 use Rattle.reading.specs.declared.mark.Move.{Move}
 use Rattle.reading.specs.Answer.{stepOn, stepOff, stepOf, moveOf, afterMoves}
 
--- a step by its end
-pub on-line : (l : Line) (m : Mark) → stepOf l m .end ≤ 0 → m .next < l .stretches
-on-line l m h = go (ltb (m .next) (l .stretches)) refl h
-  where
-    go : (b : Bool) → ltb (m .next) (l .stretches) ≡ b → cond b (stepOn l m) (stepOff m) .end ≤ 0 → m .next < l .stretches
-    go true e h = ltb-true _ _ e
-    go false e h = absurd (let k : 1 ≤ 0 = h in omega arith)
-
-pub off-line : (l : Line) (m : Mark) → 0 < stepOf l m .end → l .stretches ≤ m .next
-off-line l m h = go (ltb (m .next) (l .stretches)) refl h
-  where
-    go : (b : Bool) → ltb (m .next) (l .stretches) ≡ b → 0 < cond b (stepOn l m) (stepOff m) .end → l .stretches ≤ m .next
-    go true e h = absurd (let k : 0 < 0 = h in omega arith)
-    go false e h = ltb-false _ _ e
-
+-- a step before the end, and at it
 pub step-on : (l : Line) (m : Mark) → m .next < l .stretches → stepOf l m ≡ stepOn l m
 step-on l m h = simp (lt-ltb (m .next) (l .stretches) h)
+
+step-off : (l : Line) (m : Mark) → l .stretches ≤ m .next → stepOf l m ≡ stepOff m
+step-off l m h = simp (le-ltb (m .next) (l .stretches) h)
+
+-- and which it was
+pub on-line : (l : Line) (m : Mark) → stepOf l m .end ≤ 0 → m .next < l .stretches
+on-line l m h = ⊎-elim (λ i. i) (λ i. let e = ap (λ (r : Move). r .end) (step-off l m i) in omega arith) (below (m .next) (l .stretches))
+
+pub off-line : (l : Line) (m : Mark) → 0 < stepOf l m .end → l .stretches ≤ m .next
+off-line l m h = ⊎-elim (λ i. let e = ap (λ (r : Move). r .end) (step-on l m i) in omega arith) (λ i. i) (below (m .next) (l .stretches))
 
 module _ (s : List ℕ) (sheet : accepted s ≡ true) where
   abbrev at : ℕ → Mark
@@ -39,12 +34,12 @@ module _ (s : List ℕ) (sheet : accepted s ≡ true) where
 
   move-on : (m : Mark) → m .next < lineOf s .stretches → moveOf s m ≡ stepOn (lineOf s) m
   unfolding moveOf
-  move-on m h = simp (sheet, lt-ltb (m .next) (lineOf s .stretches) h)
+  move-on m h = simp sheet (step-on (lineOf s) m h)
 
   -- any mark that is not before a stretch is at the end, and stays
   pub stays : (m : Mark) → lineOf s .stretches ≤ m .next → moveOf s m ≡ stepOff m
   unfolding moveOf
-  stays m h = simp (sheet, le-ltb (m .next) (lineOf s .stretches) h)
+  stays m h = simp sheet (step-off (lineOf s) m h)
 
   before : (k : ℕ) → k ≤ lineOf s .stretches → afterMoves s k ≡ at k
   unfolding afterMoves

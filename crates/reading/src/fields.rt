@@ -38,6 +38,7 @@ pub fn signals(s: &[u8]) -> u32
     u16_at(s, 2)
 }
 
+// Where the k-th stretch starts.
 pub fn start(s: &[u8], k: usize) -> Metre
     requires { ⌜ (accepted (now s) ≡ true) × (k < lineOf (now s) .stretches) ⌝ }
     ensures { λ r. ⌜ r ≡ metres (lineOf (now (s .entry)) .start k) ⌝ }
@@ -45,6 +46,7 @@ pub fn start(s: &[u8], k: usize) -> Metre
     Metre(u32_at(s, 20 + 6 * k))
 }
 
+// The k-th stretch's gradient in per mille.
 pub fn gradient(s: &[u8], k: usize) -> i32
     requires { ⌜ (accepted (now s) ≡ true) × (k < lineOf (now s) .stretches) ⌝ }
     ensures { λ r. ⌜ r ≡ lineOf (now (s .entry)) .gradient k ⌝ }
@@ -60,6 +62,7 @@ fn signal_at(s: &[u8], k: usize) -> usize
     20 + 6 * (u16_at(s, 0) as usize) + 6 * k
 }
 
+// Where the k-th signal stands.
 pub fn place(s: &[u8], k: usize) -> Metre
     requires { ⌜ (accepted (now s) ≡ true) × (k < lineOf (now s) .signals) ⌝ }
     ensures { λ r. ⌜ r ≡ metres (lineOf (now (s .entry)) .place k) ⌝ }
@@ -67,6 +70,7 @@ pub fn place(s: &[u8], k: usize) -> Metre
     Metre(u32_at(s, signal_at(s, k)))
 }
 
+// The k-th signal's overlap.
 pub fn overlap(s: &[u8], k: usize) -> Metre
     requires { ⌜ (accepted (now s) ≡ true) × (k < lineOf (now s) .signals) ⌝ }
     ensures { λ r. ⌜ r ≡ metres (lineOf (now (s .entry)) .overlap k) ⌝ }

@@ -1,4 +1,5 @@
--- The rules of a table of records as the code meets them, one record at a time; nobody has to believe this: `kept-of` and `keeps-of` (proofs/Kept.antt) tie it to the paper's rules.
+-- The rules of a table of records as the code meets them, one record at a time.
+-- Nobody has to believe this: `kept-of`, `keeps-of` and `headed-of` (proofs/Kept.antt) tie it to the paper's rules.
 use mathlib.Core.Path.{_≡_}
 use mathlib.Core.Bool.{Bool, true, false}
 use mathlib.Core.List.{List}

@@ -29,7 +29,7 @@ module _ (l : Line) where
     pub from : l .start k ≤ p
     pub before : p < reach k
 
-  -- the gradient at a point: of the last stretch that starts at or before it
+  -- the gradient at a point of the line: of the last stretch that starts at or before it; the first starts at 0
   unfoldable pub slopeUpTo : ℕ → ℕ → Gradient
   slopeUpTo zero p = slope 0
   slopeUpTo (suc k) p = cond (leb (l .start (suc k)) p) (slope (suc k)) (slopeUpTo k p)
@@ -42,7 +42,7 @@ module _ (l : Line) where
   leastOf from zero = slopeAt from
   leastOf from (suc n) = lesser (leastOf from n) (slopeAt (from + suc n))
 
-  -- at the points from `from` up to but not including `to`
+  -- at the points from `from` up to but not including `to`, of which there is at least one
   abbrev pub leastOver : ℕ → ℕ → Gradient
   leastOver from to = leastOf from (to - from - 1)
 

@@ -4,7 +4,7 @@ ghost use Rattle.writing.specs.Answer.{Writes};
 use train::Metre;
 use train::Written;
 
-pub mod put;
+mod put;
 
 // The sheet of four lists and a line end, and how many bytes it takes; or a refusal, and the buffer is left as it was.
 pub fn write(

@@ -13,6 +13,7 @@ ghost use Rattle.listing.specs.Lists.{countOf, secondOf};
 use listing::second;
 use sheet::Table;
 
+// A number of two bytes, least significant first.
 fn u16_at(out: &mut [u8], i: usize, x: u32)
     requires { ⌜ (x < 65536) × (i + 2 ≤ length (now out)) ⌝ }
     ensures { λ r. ⌜ now (out .exit) ≡ put i (bytes2 x) (now (out .entry)) ⌝ }
@@ -21,6 +22,7 @@ fn u16_at(out: &mut [u8], i: usize, x: u32)
     out[i + 1] = (x / 256) as u8;
 }
 
+// A number of four bytes.
 fn u32_at(out: &mut [u8], i: usize, x: u32)
     requires { ⌜ i + 4 ≤ length (now out) ⌝ }
     ensures { λ r. ⌜ now (out .exit) ≡ put i (bytes4 x) (now (out .entry)) ⌝ }

@@ -26,7 +26,7 @@ unfolding signalOf
 returns c = (simp (sym (c .before .accepts .ensures .answer) ∙ not-true _ (c .if1 .taken)), not-again _ 6)
 
 signals-requires : tie.Need-signals-requires
-signals-requires c κs = sym (c .before .accepts .ensures .answer) ∙ not-false _ (c .if1 .left)
+signals-requires c κs = held c
 
 returns-2 : tie.Need-returns-2
 unfolding signalOf

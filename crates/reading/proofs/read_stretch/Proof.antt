@@ -28,7 +28,7 @@ unfolding stretchOf
 returns c = (simp (sym (c .before .accepts .ensures .answer) ∙ not-true _ (c .if1 .taken)), not-again _ 6)
 
 stretches-requires : tie.Need-stretches-requires
-stretches-requires c κs = sym (c .before .accepts .ensures .answer) ∙ not-false _ (c .if1 .left)
+stretches-requires c κs = held c
 
 returns-2 : tie.Need-returns-2
 unfolding stretchOf

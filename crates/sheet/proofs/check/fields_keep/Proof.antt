@@ -5,7 +5,7 @@ use borrow.Author.Tests.{not-true, not-false}
 use denote.Ref.{now}
 use mathlib.Core.Bool.{Bool}
 use mathlib.Core.List.{List}
-use mathlib.Core.Path.{_≡_, sym, _∙_, refl, ap, subst}
+use mathlib.Core.Path.{_≡_, sym, _∙_, refl, ap}
 use native.Mathlib.Omega.{arith}
 use Rattle.sheet.specs.declared.Table.{Table}
 use Rattle.sheet.specs.declared.Table.the-variants.{Stretches, Signals}
@@ -29,7 +29,7 @@ abbrev Table-keeps : Table → List ℕ → ℕ → ℕ → ℕ → Type 0
 Table-keeps t s at end n = Along (λ k. u32At s (at + 6 * k)) (λ k. KeepsItself t end (u32At s (at + 6 * k)) (u16At s (at + 6 * k + 4))) n
 
 asked : (t : Table) (s : List ℕ) (b : Bool) {at at′ end end′ n n′ : ℕ} → at ≡ at′ → end ≡ end′ → n ≡ n′ → Decides b (Table-keeps t s at end n) → Decides b (Table-keeps t s at′ end′ n′)
-asked t s b {at} {at′} {end} {end′} {n} {n′} e f g d = subst (λ (m : ℕ). Decides b (Table-keeps t s at′ end′ m)) g (subst (λ (m : ℕ). Decides b (Table-keeps t s at′ m n)) f (subst (λ (m : ℕ). Decides b (Table-keeps t s m end n)) e d))
+asked t s b e f g d = rw (← e, ← f, ← g) d
 
 first-table : (r : tie.After-records-keep) → let s = now (r .before .before .before .before .before .before .before .before .before .args .s) in Decides (r .records-keep .result) (Table-keeps Stretches s 20 (u32At s 16) (u16At s 0))
 first-table r =
