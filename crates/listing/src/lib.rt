@@ -2,9 +2,7 @@
 ghost use mathlib.Core.Path.{_≡_};
 ghost use Prim.Native.Nat.{_≤_, _<_};
 ghost use lib.ListN.{length, getD};
-ghost use mir.Syntax.{w16};
-ghost use mir.Val.{SFits};
-ghost use Rattle.sheet.specs.Bytes.{complement};
+ghost use Rattle.sheet.specs.Bytes.{signed, complement};
 ghost use Rattle.sheet.specs.Line.{farthestEnd};
 ghost use Rattle.sheet.specs.Records.{Decides, Along};
 ghost use Rattle.sheet.specs.Fields.{fourLists, writable};
@@ -14,11 +12,10 @@ use sheet::check::counts_keep;
 use sheet::check::record_keeps;
 
 // Two's complement of 16 bits.
-fn bits(z: i32) -> u32
-    requires { ⌜ SFits w16 z ⌝ }
-    ensures { λ r. ⌜ (r ≡ complement z) × (r < 65536) ⌝ }
+fn bits(z: i16) -> u32
+    ensures { λ r. ⌜ (r ≡ complement z) × (r < 65536) × (signed r ≡ z) ⌝ }
 {
-    let g = train::slope::gradient_of(z);
+    let g = train::slope::gradient_of(z as i32);
     let fall = g.fall;
     if fall > 0 { 65536 - fall } else { g.rise }
 }
@@ -29,7 +26,7 @@ pub fn second(table: Table, gradients: &[i16], overlaps: &[u16], k: usize) -> u3
     ensures { λ r. ⌜ (r ≡ secondOf table (now (gradients .entry)) (now (overlaps .entry)) k) × (r < 65536) × Same table (now (gradients .entry)) (now (overlaps .entry)) k r ⌝ }
 {
     match table {
-        Table::Stretches => bits(gradients[k] as i32),
+        Table::Stretches => bits(gradients[k]),
         Table::Signals => overlaps[k] as u32,
     }
 }
