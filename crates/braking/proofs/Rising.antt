@@ -18,10 +18,11 @@ use Rattle.train.specs.declared.Train.{Train}
 use Rattle.train.specs.declared.Gradient.{Gradient}
 use Rattle.train.specs.declared.Coefficients.{Coefficients}
 use Rattle.train.specs.Slope.{di}
+use Rattle.train.proofs.Decelerations.{di-is, dr-is}
 use Rattle.braking.specs.Braking.{KC, dp, strong}
 use Rattle.braking.specs.Plan.{sOf}
 use Rattle.braking.proofs.Exact.{s-pos, KC-is, K0-is}
-use Rattle.braking.proofs.Steady.{di-is, power-is}
+use Rattle.braking.proofs.Steady.{power-is}
 
 module _ (k : Coefficients) (t : Train) (g : Gradient) (plus : k .nc .plus ≡ 0) (minus : k .nc .minus ≡ 0) (part : k .cr ≤ 100) where
   abbrev power : ℕ
@@ -39,7 +40,7 @@ module _ (k : Coefficients) (t : Train) (g : Gradient) (plus : k .nc .plus ≡ 0
   dp-is v v0 ahead =
       becomes (power ∷ (100 * sOf (v .0) - k .cr * v0 .0) ∷ sOf (v .0) ∷ []) done
       (shape x1 (num 0) (num 100 ⊗ x2) *e wholeE (num 1) *e overE x0 (10 ^ 7)) (shape (x0 ⊗ x1) (num 0) (num (10 ^ 9) ⊗ x2))
-      (*q-cong (*q-cong (K0-is k v v0 ahead part) (one v)) (power-is (k .kr) (t .weight))) (omega (arith, s-pos (v .0))) refl
+      (*q-cong (*q-cong (K0-is k v v0 ahead part) (one v)) (power-is (k .kr) (t .weight) _ (dr-is (t .weight)))) (omega (arith, s-pos (v .0))) refl
 
   module _ (v w v0 : Kmh) (ahead : v0 .0 ≤ v .0) (on : v .0 ≤ w .0) where
     dp-rises : dp k t g v v0 ≤q dp k t g w v0

@@ -1,4 +1,4 @@
--- What the speeds do not change, T, tR + tf, di and Kr · dr, in whole numbers; and how large they can be.
+-- What the speeds do not change, T, tR + tf and Kr · dr, in whole numbers; and how large they can be.
 use mathlib.Core.Path.{refl}
 use mathlib.Core.List.{[], _∷_}
 use Prim.Native.Nat.{ℕ, _+_, _*_, _^_, _≤_}
@@ -32,22 +32,12 @@ module _ (k : Coefficients) (t : Train) (d : ℕ) (e : d over 1000000 ≈q delay
   R-is =
       becomes (k .dt * d ∷ []) done (overE (num 10) 10 +e overE x0 (10 ^ 8)) (overE (num 100000000 ⊕ x0) (10 ^ 8)) (+q-cong (≈q-refl {a = tR} (lit< tt)) tf-is) (lit< tt) refl
 
-pub di-is : (k : Coefficients) (g : Gradient) → di k g ≈q signed (factor k g * 981 * g .rise) (factor k g * 981 * g .fall) (10 ^ 7)
-unfolding di
-di-is k g =
-    becomes (factor k g ∷ g .rise ∷ g .fall ∷ []) done (overE x0 100 *e (overE (num 981) 100 *e shape x1 x2 (num 1000)))
-    (shape (x0 ⊗ num 981 ⊗ x1) (x0 ⊗ num 981 ⊗ x2) (num (10 ^ 7))) (≈q-refl (lit< tt)) (lit< tt) refl
-
-pub power-is : (k w : ℕ) → (k over 100) *q dr w ≈q (k * (685 * w + 9400)) over (10 ^ 7)
-unfolding dr
-power-is k w =
-    becomes (k ∷ w ∷ []) done (overE x0 100 *e (overE (num 685) 100000 *e wholeE x1 +e overE (num 94) 1000)) (overE (x0 ⊗ (num 685 ⊗ x1 ⊕ num 9400)) (10 ^ 7)) (≈q-refl (lit< tt)) (lit< tt) refl
+pub power-is : (k w d : ℕ) → dr w ≈q d over (10 ^ 5) → (k over 100) *q dr w ≈q (k * d) over (10 ^ 7)
+power-is k w d e =
+    becomes (k ∷ d ∷ []) done (overE x0 100 *e overE x1 (10 ^ 5)) (overE (x0 ⊗ x1) (10 ^ 7)) (*q-cong (≈q-refl {a = k over 100} (lit< tt)) e) (lit< tt) refl
 
 pub delay-small : (x d : ℕ) → x ≤ 200 → d ≤ 18500000 → x * d ≤ 3700000000
 delay-small x d h k = mul-le-mul {n₂ = 200} {m₂ = 18500000} h k
 
-pub slope-small : (f n : ℕ) → f ≤ 120 → n ≤ 35 → f * 981 * n ≤ 4120200
-slope-small f n h k = mul-le-mul {n₂ = 117720} {m₂ = 35} (omega arith) k
-
-pub power-small : (k w : ℕ) → k ≤ 150 → w ≤ 160 → k * (685 * w + 9400) ≤ 17850000
-power-small k w h i = mul-le-mul {n₂ = 150} {m₂ = 119000} h (omega arith)
+pub power-small : (k d : ℕ) → k ≤ 150 → d ≤ 119000 → k * d ≤ 17850000
+power-small k d h i = mul-le-mul {n₂ = 150} {m₂ = 119000} h i

@@ -34,18 +34,16 @@ pub fn course_of(k: Coefficients, train: Train, g: Gradient) -> Course
     let tf8 = k.dt as u64 * train::delay::of_train(train) as u64;
     let t8 = k.h as u64 * 10000000 + tf8;
     let r8 = 100000000 + tf8;
-    let slope = train::slope::factor_of(k, g) as u64 * 981;
-    let up7 = slope * g.rise as u64;
-    let dn7 = slope * g.fall as u64;
-    let power = k.kr as u64 * (685 * train.weight as u64 + 9400);
+    let pull = train::slope::pull_of(k, g);
+    let power = k.kr as u64 * train::slope::nominal(train.weight);
     let cr = k.cr as u64;
     let plus = nc.plus as u64;
     let minus = nc.minus as u64;
     Course {
         t8: t8,
         r8: r8,
-        up7: up7,
-        dn7: dn7,
+        up7: pull.up7,
+        dn7: pull.dn7,
         power: power,
         cr: cr,
         plus: plus,

@@ -2,3 +2,4 @@ mod Border
 mod Rows
 pub mod Refusals
 pub mod Spans
+pub mod Decelerations
