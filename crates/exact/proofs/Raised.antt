@@ -3,7 +3,7 @@ use mathlib.Core.Path.{_≡_, sym}
 use mathlib.Core.Logic.{_↔_}
 use Prim.Native.Nat.{ℕ, suc, _+_, _*_, _-_, _/_, _≤_, _<_}
 use native.Mathlib.Omega.{arith}
-use native.Mathlib.Nat.{le-refl, le-of-eq, le-antisymm, suc-mul, div-lt-iff-lt-mul}
+use native.Mathlib.Nat.{le-refl, le-of-eq, le-antisymm, suc-mul, div-lt-iff-lt-mul, div-mul-le-self}
 use Rattle.exact.specs.Fraction.{Fraction, whole, _over_, _≤q_, _≈q_, raised, Least}
 use Rattle.exact.proofs.Order.{≤q-trans}
 
@@ -32,3 +32,8 @@ raised-cong {a} {b} e = le-antisymm (raised-mono a b (e .left) (e .right) (le-of
 -- of n / d it is at most q just where q times d holds n
 pub raised-over-le : (n d q : ℕ) → 0 < d → (raised (n over d) ≤ q) ↔ (n ≤ q * d)
 raised-over-le n d q l = ((λ h. omega (arith, raised-le (n over d) q l .0 h)), (λ h. raised-le (n over d) q l .1 (omega arith)))
+
+-- and it is less than n / d and one more
+pub raised-over-near : (n d : ℕ) → 0 < d → raised (n over d) * d < n + d
+unfolding raised
+raised-over-near n d l = let h : (n - 0 + (d - 1)) / d * d ≤ n - 0 + (d - 1) = div-mul-le-self (n - 0 + (d - 1)) d in omega arith

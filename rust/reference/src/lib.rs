@@ -1,11 +1,15 @@
-//! The step braking model and the speed ceilings of RFI TC.SCC SR AV 03 R02 (document 002), in exact fractions.
+//! The step braking model and the speed ceilings of RFI TC.SCC SR AV 03 R02 (document 002) and the ramp model of RFI
+//! TC.PATC ST CM 01 M11 (document 000), in exact fractions.
 //!
 //! It follows the printed formulas line by line and in their own units, slowly and without any rounding but the last,
 //! so that other figures can be held against it. Document 01's line sheet stands beside them.
 
+pub mod allegato;
 pub mod ceilings;
 pub mod fraction;
 pub mod natural;
+pub mod ramp;
 pub mod sheet;
 pub mod step;
 pub mod train;
+pub mod units;

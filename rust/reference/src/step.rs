@@ -1,7 +1,8 @@
 //! The step model: EBI, SBI, W and P distances (document 002, sections 7 and 8).
 
 use crate::fraction::{Fraction, Printed};
-use crate::train::{di, Train, TOP_SPAN};
+use crate::train::{check_gradient, di, strong_enough, Train, TOP_SPAN};
+use crate::units::{metres_per_second, millimetres};
 
 /// Section 7: the on-board equipment's own delay, in seconds.
 const H: Printed = (10, 10);
@@ -17,14 +18,6 @@ const T_R: Printed = (10, 10);
 const T_W: Printed = (15, 10);
 const T_P: Printed = (15, 10);
 
-/// Document 01: one km/h in m/s.
-const KMH: Printed = (5, 18);
-/// Document 01, refusal 10: the least deceleration in m/s² that the model is used with.
-const LEAST_DECELERATION: Printed = (5, 100);
-/// Document 01: the gradient's span in per mille, either way.
-const STEEPEST: u32 = 35;
-const MILLIMETRES: u32 = 1000;
-
 #[derive(Clone, Copy, Debug, PartialEq, Eq)]
 pub enum Curve {
     Ebi,
@@ -39,11 +32,6 @@ struct Braking {
     t: Fraction,
     di: Fraction,
     dr: Fraction,
-}
-
-/// Section 6 asks for m/s in the formulas.
-fn metres_per_second(kmh: u32) -> Fraction {
-    Fraction::from(kmh) * Fraction::from(KMH)
 }
 
 /// Section 7.3.1; where V is 0 the printed quotient has no value, and document 01 gives 1.
@@ -71,11 +59,7 @@ impl Braking {
     /// Section 7.3: dp, and with it dp + di; refusal 10 where that is too little.
     fn deceleration(&self, v: u32, v0: u32) -> Result<Fraction, u32> {
         let dp = k0(v, v0) * kc(v) * Fraction::from(K_R) * &self.dr;
-        let deceleration = dp + &self.di;
-        if deceleration < Fraction::from(LEAST_DECELERATION) {
-            return Err(10);
-        }
-        Ok(deceleration)
+        strong_enough(dp + &self.di)
     }
 
     /// Section 7.4, with V and V0 in m/s.
@@ -102,12 +86,6 @@ impl Braking {
     }
 }
 
-/// The least whole millimetre not below a distance in metres.
-fn millimetres(metres: &Fraction) -> u32 {
-    let raised = (metres * Fraction::from(MILLIMETRES)).raised();
-    u32::try_from(raised).expect("a distance of 32 bits, not below 0")
-}
-
 /// Document 01's refusals 1 to 5, the lowest first.
 fn check(train: Train, v: u32, v0: u32, gradient: i32) -> Result<(), u32> {
     train.check()?;
@@ -117,10 +95,7 @@ fn check(train: Train, v: u32, v0: u32, gradient: i32) -> Result<(), u32> {
     if v0 > v {
         return Err(4);
     }
-    if gradient.unsigned_abs() > STEEPEST {
-        return Err(5);
-    }
-    Ok(())
+    check_gradient(gradient)
 }
 
 /// EBI, SBI, W and P in millimetres, braking from V to V0 (km/h) on a gradient in per mille, or the refusal's number.

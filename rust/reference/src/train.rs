@@ -9,6 +9,11 @@ pub const LONGEST: u32 = 1000;
 /// Section 6: the least, the greatest and the step of the braked weight percentage λ.
 pub const BRAKED_WEIGHTS: (u32, u32, u32) = (45, 160, 5);
 
+/// Document 01: the gradient's span in per mille, either way.
+const STEEPEST: u32 = 35;
+/// Document 01, refusal 10: the least deceleration in m/s² that a model is used with.
+const LEAST_DECELERATION: Printed = (5, 100);
+
 /// Section 7.1: the safety coefficient of the delay.
 const D_T: Printed = (130, 100);
 
@@ -53,10 +58,7 @@ fn delay(a: Printed, b: Printed, c: Printed, length: u32) -> Fraction {
 impl Train {
     /// Document 01's refusals 1, 2 and 3 of the train itself, the lowest first.
     pub fn check(self) -> Result<(), u32> {
-        let (least, greatest, step) = BRAKED_WEIGHTS;
-        if !(least..=greatest).contains(&self.braked_weight) || !(self.braked_weight - least).is_multiple_of(step) {
-            return Err(1);
-        }
+        check_braked_weight(self.braked_weight)?;
         if self.length > LONGEST {
             return Err(2);
         }
@@ -76,17 +78,55 @@ impl Train {
         delay(A_M, B_M, C_M, self.length)
     }
 
+    /// Section 7.1.1, t_f': the delay in seconds before the safety coefficient.
+    pub fn delay(self) -> Fraction {
+        let passenger = self.passenger_delay();
+        if self.freight {
+            passenger.max(self.freight_delay())
+        } else {
+            passenger
+        }
+    }
+
     /// Section 7.1: the time in seconds for which no brake force is assumed.
     pub fn tf(self) -> Fraction {
-        let passenger = self.passenger_delay();
-        let slower = if self.freight { passenger.max(self.freight_delay()) } else { passenger };
-        Fraction::from(D_T) * slower
+        Fraction::from(D_T) * self.delay()
     }
 
     /// Section 7.3.4: the nominal deceleration in m/s².
     pub fn dr(self) -> Fraction {
-        Fraction::from(A) * Fraction::from(self.braked_weight) + Fraction::from(B)
+        dr(self.braked_weight)
     }
+}
+
+/// Document 01's refusal 1.
+pub fn check_braked_weight(braked_weight: u32) -> Result<(), u32> {
+    let (least, greatest, step) = BRAKED_WEIGHTS;
+    if !(least..=greatest).contains(&braked_weight) || !(braked_weight - least).is_multiple_of(step) {
+        return Err(1);
+    }
+    Ok(())
+}
+
+/// Document 01's refusal 5.
+pub fn check_gradient(gradient: i32) -> Result<(), u32> {
+    if gradient.unsigned_abs() > STEEPEST {
+        return Err(5);
+    }
+    Ok(())
+}
+
+/// dp + di in m/s², or refusal 10 where that is too little.
+pub fn strong_enough(deceleration: Fraction) -> Result<Fraction, u32> {
+    if deceleration < Fraction::from(LEAST_DECELERATION) {
+        return Err(10);
+    }
+    Ok(deceleration)
+}
+
+/// Section 7.3.4, for a braked weight in per cent without its train.
+pub fn dr(braked_weight: u32) -> Fraction {
+    Fraction::from(A) * Fraction::from(braked_weight) + Fraction::from(B)
 }
 
 /// Section 7.2: the deceleration in m/s² of a slope in per mille, positive uphill.

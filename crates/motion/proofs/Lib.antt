@@ -1,0 +1,3 @@
+pub mod Brake
+pub mod Furthest
+pub mod Phases

@@ -1,0 +1,6 @@
+mod Bounds
+mod Whole
+mod Rolling
+mod Moment
+mod Kept
+mod Answers

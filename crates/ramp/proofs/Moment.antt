@@ -1,0 +1,73 @@
+-- The millisecond that the search finds is the one of the definition: before it the train moves on, after it it rolls back.
+use mathlib.Core.Path.{_≡_, refl, sym, _∙_}
+use mathlib.Core.Bool.{Bool, true, false, cond}
+use mathlib.Core.List.{[], _∷_}
+use Prim.Native.Nat.{ℕ, zero, suc, _+_, _*_, _^_, _≤_, _<_}
+use native.Mathlib.Omega.{arith}
+use native.Mathlib.Nat.{mul-pos, le-dest, lt-of-not-le}
+use native.Mathlib.Decide.{decLe}
+use borrow.Author.Tests.{le-leb, lt-leb}
+use lib.Dec.{leb, lit<}
+use Rattle.exact.specs.Fraction.{whole, signed, _over_, cross, _≈q_, leq}
+use Rattle.exact.proofs.Polynomial.{num, _⊗_}
+use Rattle.exact.proofs.Certificate.{x0, x1, x2, done}
+use Rattle.exact.proofs.Shape.{shape}
+use Rattle.exact.proofs.Order.{leb-agree}
+use Rattle.exact.proofs.Substitution.{≈q-refl, ≈q-sym, becomes, ≤q-cong, <q-cong}
+use Rattle.train.specs.declared.Coefficients.{Coefficients}
+use Rattle.motion.specs.declared.Overrun.{Overrun}
+use Rattle.motion.specs.declared.Plan.{Plan}
+use Rattle.motion.specs.Motion.{speedAt, placeAt}
+use Rattle.motion.specs.Plan.{IsPlan, fast, slow, gain, loss}
+use Rattle.motion.proofs.Furthest.{earlier, fast-fine, slow-fine, gain-fine, loss-fine}
+use Rattle.motion.proofs.Phases.{place-is, speed-is}
+use Rattle.ramp.specs.Answer.{lastBelow, moment}
+use Rattle.ramp.specs.Begin.{Turns, longest}
+
+last-is : (n t : ℕ) (b : ℕ → Bool) → t < n → b t ≡ true → ((s : ℕ) → t < s → b s ≡ false) → t ≡ lastBelow n b
+unfolding lastBelow
+last-is zero t b l e f = absurd (let i : ⊥ = omega arith in i)
+last-is (suc n) t b l e f = go (decLe n t) (λ h. last-is n t b h e f)
+  where
+    go : Dec (n ≤ t) → (t < n → t ≡ lastBelow n b) → t ≡ cond (b n) n (lastBelow n b)
+    go (yes h) g = let i : n ≡ t = omega arith in rw (i, e) refl
+    go (no h) g = rw (f n (lt-of-not-le h)) (g (lt-of-not-le h))
+
+-- once it has begun to roll back it rolls back for ever
+pub rolls-on : (m : Plan) (t : ℕ) → Turns m t → (s : ℕ) → t < s → fast m s < slow m s
+rolls-on m t h s l = go (decLe (slow m s) (fast m s))
+  where
+    go : Dec (slow m s ≤ fast m s) → fast m s < slow m s
+    go (no i) = lt-of-not-le i
+    go (yes i) =
+        let (z, e) = le-dest {n = t + 1} {m = s} (omega arith) in
+        let j : slow m (t + 1) ≤ fast m (t + 1) = earlier m (t + 1) z (omega arith) (rw e i) in
+        absurd (let n : ⊥ = omega (arith, h .back) in n)
+
+module _ (k : Coefficients) (o : Overrun) (m : Plan) (is : IsPlan k o m) (l : 0 < m .tr) where
+  -- at a whole millisecond
+  pub place-at : (t : ℕ) → placeAt k o (t over 1000) ≈q signed (gain m t) (loss m t) (108 * 10 ^ 13 * m .tr)
+  place-at t =
+      becomes (gain m t ∷ loss m t ∷ m .tr ∷ []) done
+      (shape (num (10 ^ 9) ⊗ x0) (num (10 ^ 9) ⊗ x1) (num (108 * 10 ^ 13) ⊗ x2 ⊗ num (10 ^ 9))) (shape x0 x1 (num (108 * 10 ^ 13) ⊗ x2))
+      (rw (gain-fine m 1000 t, loss-fine m 1000 t) at (place-is k o m is t 1000 (lit< tt) l)) (mul-pos (lit< tt) l) refl
+
+  speed-at : (t : ℕ) → speedAt k o (t over 1000) ≈q signed (fast m t) (slow m t) (18 * 10 ^ 10 * m .tr)
+  speed-at t =
+      becomes (fast m t ∷ slow m t ∷ m .tr ∷ []) done
+      (shape (num (10 ^ 6) ⊗ x0) (num (10 ^ 6) ⊗ x1) (num (18 * 10 ^ 10) ⊗ x2 ⊗ num (10 ^ 6))) (shape x0 x1 (num (18 * 10 ^ 10) ⊗ x2))
+      (rw (fast-fine m 1000 t, slow-fine m 1000 t) at (speed-is k o m is t 1000 (lit< tt) l)) (mul-pos (lit< tt) l) refl
+
+  -- the definition's test of the speed is the code's
+  test-is : (t : ℕ) → leq (whole 0) (speedAt k o (t over 1000)) ≡ leb (slow m t) (fast m t)
+  test-is t =
+      let v = speedAt k o (t over 1000) in
+      leb-agree (cross (whole 0) v) (cross v (whole 0)) (slow m t) (fast m t)
+      (λ h. omega (arith, ≤q-cong (≈q-refl {a = whole 0} (lit< tt)) (speed-at t) h))
+      (λ h. omega (arith, <q-cong (speed-at t) (≈q-refl {a = whole 0} (lit< tt)) h))
+
+  pub moment-is : (t : ℕ) → Turns m t → t ≡ moment k o
+  unfolding moment
+  moment-is t h =
+      last-is longest t (λ s. leq (whole 0) (speedAt k o (s over 1000))) (h .early) (test-is t ∙ le-leb _ _ (h .still))
+      (λ s i. test-is s ∙ lt-leb _ _ (rolls-on m t h s i))

@@ -1,0 +1,76 @@
+-- Document 01, "Ramp" and "What is turned away": what the call answers, and what it promises.
+use mathlib.Core.Path.{_≡_}
+use mathlib.Core.Bool.{Bool, not, cond}
+use mathlib.Core.List.{List, [], _∷_, _++_}
+use Prim.Native.Nat.{ℕ, zero, suc, _+_, _^_, _<_}
+use lib.Dec.{ltb, eqb}
+use Rattle.exact.specs.Fraction.{whole, _over_, _+q_, _-q_, leq, _≤q_, _<q_}
+use Rattle.train.specs.declared.Kmh.{Kmh}
+use Rattle.train.specs.declared.Gradient.{Gradient}
+use Rattle.train.specs.declared.Coefficients.{Coefficients}
+use Rattle.train.specs.Units.{inMillimetres}
+use Rattle.train.specs.Refusal.{Refusal, _gives_, firstOf, weightRefusals, gradientRefusals}
+use Rattle.motion.specs.declared.Overrun.{Overrun}
+use Rattle.motion.specs.Motion.{di, dp, speedAt, placeAt}
+use Rattle.ramp.specs.declared.Stop.{Stop}
+
+-- a call's arguments as a record
+abbrev pub overrun : ℕ → Gradient → Kmh → ℕ → ℕ → Overrun
+overrun weight g v tm tr = record { weight = weight; gradient = g; v = v; tm = tm; tr = tr }
+
+-- 1 to 100 km/h
+abbrev pub speedRefusals : Kmh → List Refusal
+speedRefusals v = ltb (v .0) 1 gives 3 ∷ ltb 100 (v .0) gives 3 ∷ []
+
+-- TM of 0 to 2,000, TR of 1 to 3,000 hundredths of a second
+abbrev pub timeRefusals : ℕ → ℕ → List Refusal
+timeRefusals tm tr = ltb 2000 tm gives 6 ∷ ltb tr 1 gives 6 ∷ ltb 3000 tr gives 6 ∷ []
+
+-- what the inputs alone turn away
+abbrev pub inputs : Overrun → List Refusal
+inputs o = weightRefusals (o .weight) ++ (speedRefusals (o .v) ++ (gradientRefusals (o .gradient) ++ timeRefusals (o .tm) (o .tr)))
+
+-- the last number below n at which b holds
+unfoldable pub lastBelow : ℕ → (ℕ → Bool) → ℕ
+lastBelow zero b = 0
+lastBelow (suc n) b = cond (b n) n (lastBelow n b)
+
+-- a refusal, with zeros
+abbrev pub refused : ℕ → Stop
+refused n = record { refusal = n; distance = record { 0 = 0 }; moment = 0 }
+
+-- how much less than the answer the place at the given moment may be, in millimetres
+abbrev pub leeway : ℕ
+leeway = 5
+
+module _ (k : Coefficients) (o : Overrun) where
+  -- dp + di is 0.05 m/s² or more (refusal 10)
+  unfoldable pub strong : Bool
+  strong = leq (5 over 100) (dp o +q di k o)
+
+  abbrev pub weak : List Refusal
+  weak = not strong gives 10 ∷ []
+
+  abbrev pub rampRefusals : List Refusal
+  rampRefusals = inputs o ++ weak
+
+  -- the last whole millisecond at which the speed is not below 0; by 2²⁰ ms every accepted train rolls back
+  unfoldable pub moment : ℕ
+  moment = lastBelow (2 ^ 20) (λ t. leq (whole 0) (speedAt k o (t over 1000)))
+
+  -- the place then, raised to the least whole millimetre not below it, and one more for what is gone after that millisecond
+  unfoldable pub distance : ℕ
+  distance = inMillimetres (placeAt k o (moment over 1000)) .0 + 1
+
+  unfoldable pub stopOf : Stop
+  stopOf = cond (eqb (firstOf rampRefusals) 0) (record { refusal = 0; distance = record { 0 = distance }; moment = moment }) (refused (firstOf rampRefusals))
+
+  -- at no moment p / q from 0 on is the place beyond mm, and at ms it is more than mm less so many millimetres
+  pub record Promise (slack mm ms : ℕ) : Type 0 where
+    pub never : (p q : ℕ) → 0 < q → placeAt k o (p over q) ≤q (mm over 1000)
+    pub near : (mm over 1000) -q (slack over 1000) <q placeAt k o (ms over 1000)
+
+  -- what the call gives: the answer by definition, and the promise of every answer
+  pub record RampAnswers (r : Stop) : Type 0 where
+    pub answer : r ≡ stopOf
+    pub promise : r .refusal ≡ 0 → Promise leeway (r .distance .0) (r .moment)

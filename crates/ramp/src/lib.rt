@@ -1,0 +1,137 @@
+// The ramp: how far past a closed signal a train gets that is braked there, and when. Document 01, "Ramp".
+ghost use mathlib.Core.Path.{_≡_};
+ghost use Rattle.train.specs.Coefficients.{first, Within};
+ghost use Rattle.train.specs.Gradient.{gradientOf};
+ghost use Rattle.train.specs.Refusal.{firstOf};
+ghost use Rattle.ramp.specs.Answer.{overrun, timeRefusals, inputs, refused, RampAnswers};
+ghost use Rattle.ramp.specs.Begin.{Small, Enough, Starts, Stops};
+use motion::Overrun;
+use motion::Plan;
+use train::Coefficients;
+use train::Kmh;
+use train::Millimetre;
+
+mod place;
+mod plan;
+mod search;
+
+// How far the train gets, and the moment in ms; or a refusal and zeros.
+#[repr(C)]
+pub struct Stop {
+    pub refusal: u32,
+    pub distance: Millimetre,
+    pub moment: u32,
+}
+
+// A refusal, or the motion in whole numbers.
+enum Begun {
+    Refused(u32),
+    Ready(Plan),
+}
+
+// What TM and TR in hundredths of a second turn away, or 0.
+pub fn of_times(tm: u32, tr: u32) -> u32
+    ensures { λ r. ⌜ r ≡ firstOf (timeRefusals tm tr) ⌝ }
+{
+    if tm > 2000 {
+        return 6;
+    }
+    if tr < 1 {
+        return 6;
+    }
+    if tr > 3000 {
+        return 6;
+    }
+    0
+}
+
+// What the inputs alone turn away, or 0.
+fn turned_away(o: Overrun) -> u32
+    ensures { λ r. ⌜ r ≡ firstOf (inputs o) ⌝ }
+{
+    let v = o.v;
+    let speed = v.0;
+    let bad = train::refusal::of_weight(o.weight);
+    if bad > 0 {
+        return bad;
+    }
+    if speed < 1 {
+        return 3;
+    }
+    if speed > 100 {
+        return 3;
+    }
+    let steep = train::refusal::of_gradient(o.gradient);
+    if steep > 0 {
+        return steep;
+    }
+    of_times(o.tm, o.tr)
+}
+
+// What stands before every answer.
+fn start(k: Coefficients, o: Overrun) -> Begun
+    requires { ⌜ Within k ⌝ }
+    ensures { λ r. ⌜ Starts k o r ⌝ }
+{
+    let bad = turned_away(o);
+    if bad > 0 {
+        return Begun::Refused(bad);
+    }
+    let m = plan::plan_of(k, o);
+    if !plan::is_strong(m) {
+        return Begun::Refused(10);
+    }
+    Begun::Ready(m)
+}
+
+// A refusal, with zeros.
+fn refused_with(n: u32) -> Stop
+    ensures { λ r. ⌜ r ≡ refused n ⌝ }
+{
+    Stop {
+        refusal: n,
+        distance: Millimetre(0),
+        moment: 0,
+    }
+}
+
+// The place at the last millisecond before the train rolls back, raised, and 1 mm more for the rest of that millisecond.
+fn stop_at(m: Plan) -> Stop
+    requires { ⌜ Small m × Enough m ⌝ }
+    ensures { λ r. ⌜ Stops m r ⌝ }
+{
+    let t = search::last_forward(m);
+    let mm = place::place_up(m, t) + 1;
+    let ms = t as u32;
+    Stop {
+        refusal: 0,
+        distance: Millimetre(mm),
+        moment: ms,
+    }
+}
+
+// The answer with any coefficients of the slope.
+pub fn stop_of(k: Coefficients, o: Overrun) -> Stop
+    requires { ⌜ Within k ⌝ }
+    ensures { λ r. ⌜ RampAnswers k o r ⌝ }
+{
+    let begun = start(k, o);
+    match begun {
+        Begun::Refused(n) => refused_with(n),
+        Begun::Ready(m) => stop_at(m),
+    }
+}
+
+// The answer with the first values; TM and TR in hundredths of a second.
+pub fn ramp(weight: u32, gradient: i32, v: Kmh, tm: u32, tr: u32) -> Stop
+    ensures { λ r. ⌜ RampAnswers first (overrun weight (gradientOf gradient) v tm tr) r ⌝ }
+{
+    let o = Overrun {
+        weight: weight,
+        gradient: train::slope::gradient_of(gradient),
+        v: v,
+        tm: tm,
+        tr: tr,
+    };
+    stop_of(train::first_values(), o)
+}
