@@ -7,6 +7,7 @@ example: archives
 
 bench: archives
 	$(run) step
+	$(run) ramp
 	$(run) sheet
 	$(run) wide
 

@@ -5,6 +5,7 @@ ghost use Rattle.train.specs.Coefficients.{first};
 ghost use Rattle.train.specs.Gradient.{gradientOf};
 ghost use Rattle.curve.specs.declared.Curve.the-variants.{Ebi, Sbi, W, P};
 ghost use Rattle.step.specs.Answer.{StepAnswers, RowAnswers};
+ghost use Rattle.ramp.specs.Answer.{overrun, RampAnswers};
 ghost use Rattle.ceilings.specs.Ceilings.{limitsOf};
 ghost use Rattle.ceilings.specs.Paper.{AsPrinted};
 ghost use Rattle.sheet.specs.Fields.{fourLists};
@@ -13,6 +14,7 @@ ghost use Rattle.writing.specs.Answer.{Writes};
 ghost use Rattle.approach.specs.Entered.{trainOf};
 use ceilings::Limits;
 use curve::Curve;
+use ramp::Stop;
 use reading::Signal;
 use reading::Stretch;
 use reading::mark::Mark;
@@ -101,6 +103,13 @@ pub extern "C" fn approach_row_p(train: Entered, v0: u32, gradient: i32, row: &m
     ensures { λ r. ⌜ RowAnswers first (trainOf train) (gradientOf gradient) P (kmh v0) (now (row .entry)) r (now (row .exit)) ⌝ }
 {
     row_of(Curve::P, train, v0, gradient, row)
+}
+
+#[no_mangle]
+pub extern "C" fn approach_ramp(braked_weight: u32, gradient: i32, v: u32, tm: u32, tr: u32) -> Stop
+    ensures { λ r. ⌜ RampAnswers first (overrun «braked_weight» (gradientOf gradient) (kmh v) tm tr) r ⌝ }
+{
+    ramp::ramp(braked_weight, gradient, Kmh(v), tm, tr)
 }
 
 #[no_mangle]

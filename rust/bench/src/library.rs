@@ -28,6 +28,15 @@ pub struct Written {
     pub length: u32,
 }
 
+/// How far past the signal in millimetres, and the moment in milliseconds.
+#[repr(C)]
+#[derive(Clone, Copy, Debug, PartialEq, Eq)]
+pub struct Stop {
+    pub refusal: u32,
+    pub distance: u32,
+    pub moment: u32,
+}
+
 /// 120ths of a km/h.
 #[repr(C)]
 #[derive(Clone, Copy, Debug, PartialEq, Eq)]
@@ -104,6 +113,7 @@ extern "C" {
     fn approach_row_sbi(train: Train, v0: u32, gradient: i32, row: *mut u32, places: usize) -> Written;
     fn approach_row_w(train: Train, v0: u32, gradient: i32, row: *mut u32, places: usize) -> Written;
     fn approach_row_p(train: Train, v0: u32, gradient: i32, row: *mut u32, places: usize) -> Written;
+    fn approach_ramp(braked_weight: u32, gradient: i32, v: u32, tm: u32, tr: u32) -> Stop;
     fn approach_ceilings(permitted: u32) -> Limits;
     fn approach_sheet_write(
         starts: *const u32,
@@ -135,6 +145,11 @@ pub fn row(curve: Curve, train: Train, v0: u32, gradient: i32, row: &mut [u32]) 
         Curve::P => approach_row_p,
     };
     unsafe { call(train, v0, gradient, row.as_mut_ptr(), row.len()) }
+}
+
+/// TM and TR in hundredths of a second.
+pub fn ramp(braked_weight: u32, gradient: i32, v: u32, tm: u32, tr: u32) -> Stop {
+    unsafe { approach_ramp(braked_weight, gradient, v, tm, tr) }
 }
 
 pub fn ceilings(permitted: u32) -> Limits {

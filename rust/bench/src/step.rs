@@ -30,19 +30,30 @@ fn course(train: Train, gradient: i32) -> Course {
     let passenger = 3_500_000 + 15 * square(if train.electropneumatic { 0 } else { train.length as u64 });
     let freight = 13_500_000 + 4 * square(train.length as u64);
     let delay = if train.freight { passenger.max(freight) } else { passenger };
+    let (up7, down7) = slope(gradient);
+    Course {
+        t8: 100_000_000 + 130 * delay,
+        r8: 100_000_000 + 130 * delay,
+        up7,
+        down7,
+        power: 57 * nominal(train.braked_weight),
+    }
+}
+
+/// An uphill and a downhill slope's deceleration in 10⁻⁷ m/s².
+pub fn slope(gradient: i32) -> (u64, u64) {
     let k = match gradient {
         1.. => 90,
         -20..=0 => 100,
         _ => 110,
     };
     let slope = k * 981 * gradient.unsigned_abs() as u64;
-    Course {
-        t8: 100_000_000 + 130 * delay,
-        r8: 100_000_000 + 130 * delay,
-        up7: if gradient > 0 { slope } else { 0 },
-        down7: if gradient < 0 { slope } else { 0 },
-        power: 57 * (685 * train.braked_weight as u64 + 9400),
-    }
+    (if gradient > 0 { slope } else { 0 }, if gradient < 0 { slope } else { 0 })
+}
+
+/// The nominal deceleration in 10⁻⁵ m/s².
+pub fn nominal(braked_weight: u32) -> u64 {
+    685 * braked_weight as u64 + 9400
 }
 
 /// A product below 2^192.

@@ -1,0 +1,15 @@
+-- `approach_ramp`: the gradient that is handed on is the one that came in.
+use mir.Syntax.{w32}
+use mir.ValLaws.{toZ-ofZ}
+use borrow.Author.Needs.{needs}
+use Rattle.approach.proofs.approach_ramp.Statement.{statement}
+use Rattle.approach.proofs.approach_ramp.Tie as tie
+
+ramp-requires : tie.Need-ramp-requires
+ramp-requires c κs = search needs
+
+returns : tie.Need-returns
+returns c = let s = c .before in rw (toZ-ofZ w32 (s .args .gradient) (s .fits .gradient)) at (c .ramp .ensures)
+
+pub approach-ramp-spec : {M : Type 1} → statement M
+approach-ramp-spec = tie.close (tie.spec ramp-requires returns)

@@ -1,0 +1,132 @@
+//! The library's ramp answers against the reference and document 000's printed tables, and the peer against both.
+use bench::inputs::Random;
+use bench::library::{ramp, Stop};
+use reference::allegato::{cells, Cell, DEAD_TIME, MISPRINTS};
+use reference::ramp::{keeps_promise, ALLOWANCE};
+
+/// Half a metre, by which a printed whole metre may be off the exact distance.
+const HALF_A_METRE: u32 = 500;
+
+fn expected(braked_weight: u32, gradient: i32, v: u32, tm: u32, tr: u32) -> Stop {
+    match reference::ramp::ramp(braked_weight, gradient, v, tm, tr) {
+        Ok(stop) => Stop { refusal: 0, distance: stop.distance, moment: stop.moment },
+        Err(refusal) => Stop { refusal, distance: 0, moment: 0 },
+    }
+}
+
+/// The answer by the reference's own search, and its promise apart from that.
+fn check(braked_weight: u32, gradient: i32, v: u32, tm: u32, tr: u32) -> u32 {
+    let inputs = format!("BW {braked_weight}, i {gradient}, V {v}, TM {tm}, TR {tr}");
+    let stop = ramp(braked_weight, gradient, v, tm, tr);
+    assert_eq!(stop, expected(braked_weight, gradient, v, tm, tr), "{inputs}");
+    if stop.refusal == 0 {
+        let Stop { distance, moment, .. } = stop;
+        assert!(keeps_promise(braked_weight, gradient, v, tm, tr, distance, moment), "the promise: {inputs}");
+        assert_eq!(stop, bench::ramp::ramp(braked_weight, gradient, v, tm, tr), "the peer: {inputs}");
+    }
+    stop.refusal
+}
+
+/// Mostly what is accepted, and now and then what lies outside a span.
+struct Inputs(Random);
+
+impl Inputs {
+    fn near(&mut self, least: u32, most: u32) -> u32 {
+        match self.0.below(64) {
+            0 => most + 1,
+            1 => u32::MAX,
+            2 => least.saturating_sub(1),
+            3 => least,
+            4 => most,
+            _ => least + self.0.below((most - least + 1) as u64) as u32,
+        }
+    }
+
+    fn weight(&mut self) -> u32 {
+        match self.0.below(32) {
+            0 => self.near(40, 165),
+            _ => 45 + 5 * self.0.below(24) as u32,
+        }
+    }
+
+    fn gradient(&mut self) -> i32 {
+        match self.0.below(64) {
+            0 => 36,
+            1 => -36,
+            2 => i32::MIN,
+            3 => i32::MAX,
+            _ => self.0.below(71) as i32 - 35,
+        }
+    }
+}
+
+#[test]
+fn answers_at_random() {
+    let mut inputs = Inputs(Random(51));
+    let mut seen = [0; 12];
+    for _ in 0..50_000 {
+        let (weight, gradient) = (inputs.weight(), inputs.gradient());
+        let (v, tm, tr) = (inputs.near(1, 100), inputs.near(0, 2000), inputs.near(1, 3000));
+        seen[check(weight, gradient, v, tm, tr) as usize] += 1;
+    }
+    for refusal in [0, 1, 3, 5, 6, 10] {
+        assert!(seen[refusal] > 200, "too few answers with {refusal}: {seen:?}");
+    }
+}
+
+/// Each side of every threshold of the papers, and both ends of every span.
+#[test]
+fn answers_at_the_thresholds() {
+    let mut accepted = 0;
+    for weight in [40, 45, 47, 50, 100, 160, 165] {
+        for gradient in [-36, -35, -34, -22, -21, -20, -19, -1, 0, 1, 34, 35, 36] {
+            for v in [0, 1, 2, 99, 100, 101] {
+                for (tm, tr) in [(0, 1), (0, 3000), (200, 400), (2000, 1), (2000, 3000), (2001, 1), (0, 0), (0, 3001)] {
+                    accepted += (check(weight, gradient, v, tm, tr) == 0) as u32;
+                }
+            }
+        }
+    }
+    assert!(accepted > 500, "{accepted}");
+}
+
+/// Document 01's figures, in the ranges of document 02's Card 13.
+#[test]
+fn figures() {
+    for ((gradient, v, tm, tr), range) in
+        [((0, 36, 200, 400), 110_850..=110_851), ((0, 1, 0, 3000), 903..=904), ((35, 1, 2000, 1), 125..=126)]
+    {
+        let stop = ramp(100, gradient, v, tm, tr);
+        assert!(stop.refusal == 0 && range.contains(&stop.distance), "V {v}, i {gradient}: {stop:?}");
+    }
+}
+
+/// Whether a cell is the library's distance, to half a metre. A rise time that ends on half a hundredth lies between two
+/// that the library takes, and its distance between theirs.
+fn agrees(cell: Cell) -> bool {
+    let (lower, upper) = cell.rise_hundredths();
+    let distance = |tr| {
+        let stop = ramp(cell.braked_weight, cell.gradient, cell.v, DEAD_TIME, tr);
+        assert_eq!(stop.refusal, 0, "{cell:?}");
+        stop.distance
+    };
+    let printed = 1000 * cell.metres;
+    printed <= distance(upper) + HALF_A_METRE && distance(lower) < printed + HALF_A_METRE + ALLOWANCE
+}
+
+#[test]
+fn printed_tables() {
+    let cells = cells();
+    assert_eq!(cells.len(), 3120);
+    let misprinted = |cell: &Cell| MISPRINTS.iter().any(|misprint| misprint.cell == *cell);
+    for cell in cells.into_iter().filter(|cell| !misprinted(cell)) {
+        assert!(agrees(cell), "{cell:?}");
+    }
+    for misprint in &MISPRINTS {
+        assert!(agrees(Cell { metres: misprint.wanted, ..misprint.cell }), "{misprint:?}");
+    }
+    // The first is off by 3 mm, less than half a hundredth of its rise time makes; the reference has that exactly.
+    for misprint in &MISPRINTS[1..] {
+        assert!(!agrees(misprint.cell), "{misprint:?}");
+    }
+}
