@@ -3,18 +3,16 @@ use mathlib.Core.Path.{refl}
 use mathlib.Core.List.{[], _∷_}
 use Prim.Native.Nat.{ℕ, _+_, _*_, _^_, _≤_}
 use native.Mathlib.Nat.{mul-le-mul}
-use native.Mathlib.Omega.{arith}
 use lib.Dec.{lit<}
-use Rattle.exact.specs.Fraction.{signed, _over_, _+q_, _*q_, _≈q_}
+use Rattle.exact.specs.Fraction.{_over_, _+q_, _*q_, _≈q_}
 use Rattle.exact.proofs.Polynomial.{num, _⊕_, _⊗_}
-use Rattle.exact.proofs.Certificate.{x0, x1, x2, done}
-use Rattle.exact.proofs.Shape.{shape, wholeE, overE, _+e_, _*e_}
+use Rattle.exact.proofs.Certificate.{x0, x1, done}
+use Rattle.exact.proofs.Shape.{overE, _+e_, _*e_}
 use Rattle.exact.proofs.Substitution.{≈q-refl, ≈q-sym, becomes, +q-cong, *q-cong}
 use Rattle.train.specs.declared.Train.{Train}
-use Rattle.train.specs.declared.Gradient.{Gradient}
 use Rattle.train.specs.declared.Coefficients.{Coefficients}
 use Rattle.train.specs.Delay.{delay, tf}
-use Rattle.train.specs.Slope.{factor, di, dr}
+use Rattle.train.specs.Slope.{dr}
 use Rattle.braking.specs.Braking.{T, tR}
 
 module _ (k : Coefficients) (t : Train) (d : ℕ) (e : d over 1000000 ≈q delay t) where

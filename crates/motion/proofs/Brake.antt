@@ -42,6 +42,12 @@ module _ (nf nb ni nj nk : ℕ) (p : nb * ni ≤ 0) (q : nf * nj ≤ 0) where
       (times (num 6 ⊗ f ⊕ num 3 ⊗ b ⊕ num 3 ⊗ i ⊕ num 6 ⊗ j ⊕ num 6 ⊗ k) (b ⊗ i) (num 0) p (times (num 6 ⊗ b) (f ⊗ j) (num 0) q done))
       (CU f b ⊕ num 3 ⊗ SQ f b ⊗ h ⊕ num 3 ⊗ b ⊗ h ⊗ h) (CU (f ⊕ k) (b ⊕ j)) refl
 
+  -- below the parabola of the brake at the end
+  parabola-at : cu (nf + nk) (nb + nj) ≤ cu nf nb + 3 * sq nf nb * (ni + nj + nk) + 3 * (nb + nj) * (ni + nj + nk) * (ni + nj + nk)
+  parabola-at =
+      cert (nf ∷ nb ∷ ni ∷ nj ∷ nk ∷ []) (times (num 3 ⊗ (f ⊕ j ⊕ num 2 ⊗ k)) (f ⊗ j) (num 0) q done)
+      (CU (f ⊕ k) (b ⊕ j)) (CU f b ⊕ num 3 ⊗ SQ f b ⊗ h ⊕ num 3 ⊗ (b ⊕ j) ⊗ h ⊗ h) refl
+
   -- and below the trapezoid under the squares
   trapezoid-at : 2 * cu (nf + nk) (nb + nj) ≤ 2 * cu nf nb + 3 * (ni + nj + nk) * (sq nf nb + sq (nf + nk) (nb + nj))
   trapezoid-at =
@@ -98,7 +104,7 @@ module _ (tm tr : ℕ) where
       between P g (acted tm tr x) (full tm tr x) (acted tm tr (x + h)) (full tm tr (x + h)) h
       (omega arith) (omega arith) (omega arith) (omega arith) (λ z. omega arith) (λ z. omega arith)
 
-  slope : (x h : ℕ) → squares tm tr x + 2 * built x * h ≤ squares tm tr (x + h)
+  pub slope : (x h : ℕ) → squares tm tr x + 2 * built x * h ≤ squares tm tr (x + h)
   slope x h = rw (squares-is x, squares-is (x + h)) (along (λ a b h a′ b′. sq a b + 2 * b * h ≤ sq a′ b′) slope-at x h)
 
   pub bend : (x h : ℕ) → squares tm tr (x + h) ≤ squares tm tr x + 2 * built (x + h) * h
@@ -108,6 +114,11 @@ module _ (tm tr : ℕ) where
   tangent x h =
       rw (cubes-is x, cubes-is (x + h), squares-is x)
       (along (λ a b h a′ b′. cu a b + 3 * sq a b * h + 3 * b * h * h ≤ cu a′ b′) tangent-at x h)
+
+  pub parabola : (x h : ℕ) → cubes tm tr (x + h) ≤ cubes tm tr x + 3 * squares tm tr x * h + 3 * built (x + h) * h * h
+  parabola x h =
+      rw (cubes-is x, cubes-is (x + h), squares-is x)
+      (along (λ a b h a′ b′. cu a′ b′ ≤ cu a b + 3 * sq a b * h + 3 * b′ * h * h) parabola-at x h)
 
   pub trapezoid : (x h : ℕ) → 2 * cubes tm tr (x + h) ≤ 2 * cubes tm tr x + 3 * h * (squares tm tr x + squares tm tr (x + h))
   trapezoid x h =

@@ -1,3 +1,5 @@
 pub mod Brake
 pub mod Furthest
 pub mod Phases
+pub mod Planned
+pub mod Calculus

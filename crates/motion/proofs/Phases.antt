@@ -1,5 +1,5 @@
 -- Document 01's three phases are one polynomial form: place, speed and deceleration at any moment p / q are those of the plan.
-use mathlib.Core.Path.{_≡_, refl, _∙_}
+use mathlib.Core.Path.{_≡_, refl}
 use mathlib.Core.List.{[], _∷_}
 use Prim.Native.Nat.{ℕ, _+_, _*_, _-_, _^_, _≤_, _<_}
 use native.Mathlib.Omega.{arith}
@@ -13,16 +13,16 @@ use Rattle.exact.proofs.Substitution.{≈q-refl, becomes, cond-is, +q-cong, -q-
 use Rattle.train.specs.declared.Coefficients.{Coefficients}
 use Rattle.motion.specs.declared.Overrun.{Overrun}
 use Rattle.motion.specs.declared.Plan.{Plan}
-use Rattle.motion.specs.Motion.{di, dp, TM, TR, u, w, braked, decelerationAt, speedAt, placeAt}
+use Rattle.motion.specs.Motion.{dp, TM, TR, u, w, braked, decelerationAt, speedAt, placeAt}
 use Rattle.motion.specs.Plan.{IsPlan, full, squares, cubes, fast, slow, gain, loss}
 use Rattle.motion.proofs.Brake.{sq, cu, SQ, CU, built, squares-is, cubes-is}
 use Rattle.motion.proofs.Furthest.{finer, Fast, Slow, Gain, Loss}
 
 -- a quotient by a whole number
-abbrev divE : Shape → ℕ → Shape
+abbrev pub divE : Shape → ℕ → Shape
 divE a n = shape (a .plus ⊗ num 1) (a .minus ⊗ num 1) (a .over ⊗ num n)
 
-by : {a b : Fraction} (n : ℕ) → 0 < n → a ≈q b → a /q whole n ≈q b /q whole n
+pub by : {a b : Fraction} (n : ℕ) → 0 < n → a ≈q b → a /q whole n ≈q b /q whole n
 by n l e = /q-cong e (≈q-refl {a = whole n} (lit< tt)) l
 
 -- n / (1000 q)
@@ -172,6 +172,35 @@ module _ (k : Coefficients) (o : Overrun) (m : Plan) (is : IsPlan k o m) (p q : 
         (becomes (m .brake ∷ n ∷ q ∷ m .tr ∷ []) done (overE x0 (9 * 10 ^ 7) *e (divE (overE x3 1000) 2 +e fineE x1 x2))
         (shareE (SQ x1 (x2 ⊗ x3))) (*q-cong (is .brake) (+q-cong (by 2 (lit< tt) TR-is) (w-is n h))) share-over refl)
 
+  -- and on to the deceleration
+  module _ where
+    abbrev force : Fraction
+    force = (m .brake * built lag gap t) over (9 * 10 ^ 7 * m .tr * q)
+
+    abbrev forceE : Expr → Shape
+    forceE b = shape (x0 ⊗ b) (num 0) (num (9 * 10 ^ 7) ⊗ x3 ⊗ x2)
+
+    force-over : 0 < 9 * 10 ^ 7 * m .tr * q
+    force-over = mul-pos (mul-pos (lit< tt) l′) l
+
+    force-before : t ≤ lag → whole 0 ≈q force
+    force-before h =
+        rw (before h .1) (becomes (m .brake ∷ 0 ∷ q ∷ m .tr ∷ []) done (wholeE (num 0)) (forceE (num 0)) (≈q-refl (lit< tt)) force-over refl)
+
+    force-within : (d : ℕ) → t ≡ d + lag → d ≤ gap → dp o *q u k o (p over q) /q TR k o ≈q force
+    force-within d h i =
+        let n : dp o *q u k o (p over q) ≈q (m .brake * d) over (9 * 10 ^ 10 * q) =
+        becomes (m .brake ∷ d ∷ q ∷ []) done (overE x0 (9 * 10 ^ 7) *e fineE x1 x2) (shape (x0 ⊗ x1) (num 0) (num (9 * 10 ^ 10) ⊗ x2))
+        (*q-cong (is .brake) (u-is d h)) (mul-pos (lit< tt) l) refl in
+        rw (within d h i .1)
+        (becomes (m .brake ∷ d ∷ q ∷ m .tr ∷ []) done (shape (x0 ⊗ x1 ⊗ num 1000) (num 0) (num (9 * 10 ^ 10) ⊗ x2 ⊗ x3))
+        (forceE x1) (/q-over n TR-is l′) force-over refl)
+
+    force-beyond : (n : ℕ) → t ≡ n + lag + gap → dp o ≈q force
+    force-beyond n h =
+        rw (beyond n h .1)
+        (becomes (m .brake ∷ n ∷ q ∷ m .tr ∷ []) done (overE x0 (9 * 10 ^ 7)) (forceE (x2 ⊗ x3)) (is .brake) force-over refl)
+
   -- the place that document 01 writes is the plan's gain - loss
   pub place-is : placeAt k o (p over q) ≈q signed (gain (finer q m) t) (loss (finer q m) t) (108 * 10 ^ 13 * m .tr * (q * q * q))
   unfolding placeAt
@@ -196,3 +225,12 @@ module _ (k : Coefficients) (o : Overrun) (m : Plan) (is : IsPlan k o m) (p q : 
       (shape (Fast (x6 ⊗ x6 ⊗ x0) (x6 ⊗ x2) (num 1000 ⊗ x5)) (Slow (x6 ⊗ x1) x3 (num 1000 ⊗ x5) x7) (num (18 * 10 ^ 10) ⊗ x4 ⊗ (x6 ⊗ x6)))
       (-q-cong (-q-cong (is .start) (*q-cong (is .slope) (≈q-refl {a = p over q} l))) (braked-is share-before share-within share-beyond))
       (mul-pos (mul-pos (lit< tt) l′) (mul-pos l l)) refl
+
+  -- and the deceleration its slope and twice the brake as far as it has built up
+  pub deceleration-is : decelerationAt k o (p over q) ≈q signed (q * m .up + 2 * m .brake * built lag gap t) (q * m .down) (18 * 10 ^ 7 * m .tr * q)
+  unfolding decelerationAt
+  deceleration-is =
+      becomes (m .up ∷ m .down ∷ m .brake ∷ m .tr ∷ q ∷ built lag gap t ∷ []) done
+      (shape x0 x1 (num (18 * 10 ^ 7) ⊗ x3) +e shape (x2 ⊗ x5) (num 0) (num (9 * 10 ^ 7) ⊗ x3 ⊗ x4))
+      (shape (x4 ⊗ x0 ⊕ num 2 ⊗ x2 ⊗ x5) (x4 ⊗ x1) (num (18 * 10 ^ 7) ⊗ x3 ⊗ x4))
+      (+q-cong (is .slope) (braked-is force-before force-within force-beyond)) (mul-pos (mul-pos (lit< tt) l′) l) refl

@@ -13,7 +13,8 @@ use Rattle.motion.specs.declared.Overrun.{Overrun}
 use Rattle.motion.specs.declared.Plan.{Plan}
 use Rattle.ramp.specs.declared.Stop.{Stop}
 use Rattle.ramp.specs.Answer.{inputs, strong, weak, rampRefusals, refused, stopOf, RampAnswers}
-use Rattle.ramp.specs.Begin.{Fair, IsReady, Stops}
+use Rattle.stopping.specs.Stop.{Fair}
+use Rattle.ramp.specs.Begin.{IsReady, Stops}
 use Rattle.ramp.proofs.Moment.{moment-is}
 use Rattle.ramp.proofs.Kept.{promised, distance-is, wider}
 

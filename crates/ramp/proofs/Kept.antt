@@ -1,12 +1,11 @@
 -- The answer of an accepted input is the definition's, and keeps the promise.
-use mathlib.Core.Path.{_≡_, refl, sym, ap, _∙_}
+use mathlib.Core.Path.{_≡_, refl, sym, ap}
 use mathlib.Core.List.{[], _∷_}
 use Prim.Native.Nat.{ℕ, _+_, _*_, _-_, _^_, _≤_, _<_}
 use native.Mathlib.Omega.{arith}
 use native.Mathlib.Nat.{mul-pos, le-of-lt, le-refl}
-use native.Mathlib.Numerals.{add-one}
 use lib.Dec.{leb, lit<}
-use Rattle.exact.specs.Fraction.{whole, signed, cross, _over_, _+q_, _-q_, _*q_, _≈q_, raised}
+use Rattle.exact.specs.Fraction.{whole, signed, cross, _over_, _+q_, _-q_, _*q_, _≈q_}
 use Rattle.exact.proofs.Polynomial.{Expr, num, _⊕_, _⊗_}
 use Rattle.exact.proofs.Certificate.{x0, x1, x2, x3, x4, x5, x6, x7, x8, done, times, cert}
 use Rattle.exact.proofs.Shape.{shape, wholeE, overE, _+e_, _*e_}
@@ -17,12 +16,12 @@ use Rattle.train.specs.declared.Coefficients.{Coefficients}
 use Rattle.motion.specs.declared.Overrun.{Overrun}
 use Rattle.motion.specs.declared.Plan.{Plan}
 use Rattle.motion.specs.Motion.{di, dp, placeAt}
-use Rattle.motion.specs.Plan.{IsPlan, squares, fast, slow, gain, loss}
+use Rattle.motion.specs.Plan.{IsPlan, squares, gain, loss}
 use Rattle.motion.proofs.Brake.{built, bend}
 use Rattle.motion.proofs.Furthest.{more, less, finer, Fast, Slow, ahead, furthest-fine}
 use Rattle.motion.proofs.Phases.{place-is}
 use Rattle.ramp.specs.Answer.{strong, distance, Promise}
-use Rattle.ramp.specs.Begin.{Small, Turns, placeUp}
+use Rattle.stopping.specs.Stop.{Small, Turns, placeUp}
 use Rattle.ramp.proofs.Moment.{place-at, moment-is}
 
 -- after the last millisecond before it rolls back, the train gets less than a millimetre further

@@ -1,6 +1,3 @@
-mod Bounds
-mod Whole
-mod Rolling
 mod Moment
 mod Kept
 mod Answers

@@ -1,5 +1,5 @@
 -- The millisecond that the search finds is the one of the definition: before it the train moves on, after it it rolls back.
-use mathlib.Core.Path.{_≡_, refl, sym, _∙_}
+use mathlib.Core.Path.{_≡_, refl, _∙_}
 use mathlib.Core.Bool.{Bool, true, false, cond}
 use mathlib.Core.List.{[], _∷_}
 use Prim.Native.Nat.{ℕ, zero, suc, _+_, _*_, _^_, _≤_, _<_}
@@ -13,7 +13,7 @@ use Rattle.exact.proofs.Polynomial.{num, _⊗_}
 use Rattle.exact.proofs.Certificate.{x0, x1, x2, done}
 use Rattle.exact.proofs.Shape.{shape}
 use Rattle.exact.proofs.Order.{leb-agree}
-use Rattle.exact.proofs.Substitution.{≈q-refl, ≈q-sym, becomes, ≤q-cong, <q-cong}
+use Rattle.exact.proofs.Substitution.{≈q-refl, becomes, ≤q-cong, <q-cong}
 use Rattle.train.specs.declared.Coefficients.{Coefficients}
 use Rattle.motion.specs.declared.Overrun.{Overrun}
 use Rattle.motion.specs.declared.Plan.{Plan}
@@ -22,7 +22,7 @@ use Rattle.motion.specs.Plan.{IsPlan, fast, slow, gain, loss}
 use Rattle.motion.proofs.Furthest.{earlier, fast-fine, slow-fine, gain-fine, loss-fine}
 use Rattle.motion.proofs.Phases.{place-is, speed-is}
 use Rattle.ramp.specs.Answer.{lastBelow, moment}
-use Rattle.ramp.specs.Begin.{Turns, longest}
+use Rattle.stopping.specs.Stop.{Turns, longest}
 
 last-is : (n t : ℕ) (b : ℕ → Bool) → t < n → b t ≡ true → ((s : ℕ) → t < s → b s ≡ false) → t ≡ lastBelow n b
 unfolding lastBelow

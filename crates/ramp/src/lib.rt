@@ -4,16 +4,13 @@ ghost use Rattle.train.specs.Coefficients.{first, Within};
 ghost use Rattle.train.specs.Gradient.{gradientOf};
 ghost use Rattle.train.specs.Refusal.{firstOf};
 ghost use Rattle.ramp.specs.Answer.{overrun, timeRefusals, inputs, refused, RampAnswers};
-ghost use Rattle.ramp.specs.Begin.{Small, Enough, Starts, Stops};
+ghost use Rattle.stopping.specs.Stop.{Small, Enough};
+ghost use Rattle.ramp.specs.Begin.{Starts, Stops};
 use motion::Overrun;
 use motion::Plan;
 use train::Coefficients;
 use train::Kmh;
 use train::Millimetre;
-
-mod place;
-mod plan;
-mod search;
 
 // How far the train gets, and the moment in ms; or a refusal and zeros.
 #[repr(C)]
@@ -77,8 +74,8 @@ fn start(k: Coefficients, o: Overrun) -> Begun
     if bad > 0 {
         return Begun::Refused(bad);
     }
-    let m = plan::plan_of(k, o);
-    if !plan::is_strong(m) {
+    let m = stopping::plan::plan_of(k, o);
+    if !stopping::plan::is_strong(m) {
         return Begun::Refused(10);
     }
     Begun::Ready(m)
@@ -100,8 +97,8 @@ fn stop_at(m: Plan) -> Stop
     requires { ⌜ Small m × Enough m ⌝ }
     ensures { λ r. ⌜ Stops m r ⌝ }
 {
-    let t = search::last_forward(m);
-    let mm = place::place_up(m, t) + 1;
+    let t = stopping::search::last_forward(m);
+    let mm = stopping::place::place_up(m, t) + 1;
     let ms = t as u32;
     Stop {
         refusal: 0,

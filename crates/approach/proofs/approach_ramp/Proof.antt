@@ -1,7 +1,7 @@
 -- `approach_ramp`: the gradient that is handed on is the one that came in.
+use borrow.Author.Needs.{needs}
 use mir.Syntax.{w32}
 use mir.ValLaws.{toZ-ofZ}
-use borrow.Author.Needs.{needs}
 use Rattle.approach.proofs.approach_ramp.Statement.{statement}
 use Rattle.approach.proofs.approach_ramp.Tie as tie
 

@@ -1,10 +1,10 @@
 -- `ramp`: the answer with the first values, of the gradient that came in.
 use mathlib.Core.Path.{_≡_}
+use borrow.Author.Needs.{needs}
 use mir.Syntax.{w32}
 use mir.ValLaws.{toZ-ofZ}
 use Rattle.train.specs.Gradient.{gradientOf}
 use Rattle.train.proofs.Spans.{first-within}
-use borrow.Author.Needs.{needs}
 use Rattle.ramp.proofs.ramp.Statement.{statement}
 use Rattle.ramp.proofs.ramp.Tie as tie
 

@@ -2,8 +2,8 @@
 use mathlib.Core.Path.{_≡_, sym, _∙_}
 use borrow.Author.Needs.{needs}
 use borrow.Author.Tests.{leb-true, not-true, not-false}
-use lib.Dec.{lit<}
 use native.Mathlib.Omega.{arith}
+use lib.Dec.{lit<}
 use Rattle.train.specs.Refusal.{firstOf}
 use Rattle.ramp.specs.Answer.{inputs, strong}
 use Rattle.ramp.proofs.Answers.{inputs-fit, by-inputs, by-weakness, by-none}

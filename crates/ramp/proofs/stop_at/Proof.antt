@@ -1,9 +1,9 @@
 -- `stop_at`: at the moment that the search finds the train has not gone back.
 use mathlib.Core.Path.{refl, ap}
 use Prim.Native.Nat.{_+_}
+use borrow.Author.Needs.{needs}
 use native.Mathlib.Omega.{arith}
 use Rattle.motion.proofs.Furthest.{ahead}
-use borrow.Author.Needs.{needs}
 use Rattle.ramp.proofs.stop_at.Statement.{statement}
 use Rattle.ramp.proofs.stop_at.Tie as tie
 

@@ -1,0 +1,3 @@
+mod Bounds
+mod Whole
+pub mod Rolling

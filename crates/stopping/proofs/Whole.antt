@@ -1,0 +1,24 @@
+-- The plan's numbers are no larger than `Small` says.
+use Prim.Native.Nat.{ℕ, _*_, _≤_}
+use native.Mathlib.Omega.{arith}
+use native.Mathlib.Nat.{le-refl, mul-le-mul}
+use Rattle.motion.specs.declared.Overrun.{Overrun}
+use Rattle.motion.proofs.Planned.{planned}
+use Rattle.stopping.specs.Stop.{Fair, Small}
+
+-- a factor of tr
+pub by-rise : (x n tr : ℕ) → x ≤ n → x * tr ≤ n * tr
+by-rise x n tr h = mul-le-mul h (le-refl tr)
+
+pub is-small : (o : Overrun) (up7 dn7 dr5 : ℕ) → Fair o → up7 ≤ 4120200 → dn7 ≤ 4120200 → dr5 ≤ 119000 → Small (planned o up7 dn7 dr5)
+is-small o up7 dn7 dr5 f u n d =
+    let tr = 10 * o .tr in
+    record {
+      start = by-rise (50000000000 * o .v .0) 5000000000000 tr (omega (arith, f .v));
+      up = by-rise (18 * up7) 74163600 tr (omega arith);
+      down = by-rise (18 * dn7) 74163600 tr (omega arith);
+      brake = omega arith;
+      tm = omega (arith, f .tm);
+      some = omega (arith, f .some);
+      tr = omega (arith, f .tr);
+    }

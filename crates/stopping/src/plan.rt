@@ -1,0 +1,39 @@
+// The motion in whole numbers.
+ghost use mathlib.Core.Path.{_≡_};
+ghost use Prim.Native.Nat.{_+_, _*_};
+ghost use lib.Dec.{leb};
+ghost use Rattle.train.specs.Coefficients.{Within};
+ghost use Rattle.motion.specs.Plan.{IsPlan};
+ghost use Rattle.stopping.specs.Stop.{Fair, Small};
+use motion::Overrun;
+use motion::Plan;
+use train::Coefficients;
+
+pub fn plan_of(k: Coefficients, o: Overrun) -> Plan
+    requires { ⌜ Within k × Fair o ⌝ }
+    ensures { λ r. ⌜ IsPlan k o r × Small r ⌝ }
+{
+    let v = o.v;
+    let speed = v.0 as u64;
+    let tm = o.tm as u64;
+    let tr = 10 * o.tr as u64;
+    let pull = train::slope::pull_of(k, o.gradient);
+    // dp = 0.9 × dr, in 10⁻⁷ m/s²
+    let dp7 = 90 * train::slope::nominal(o.weight);
+    Plan {
+        start: 50000000000 * speed * tr,
+        up: 18 * pull.up7 * tr,
+        down: 18 * pull.dn7 * tr,
+        brake: 9 * dp7,
+        tm: 10 * tm,
+        tr: tr,
+    }
+}
+
+// Whether the train brakes at 0.05 m/s² or more once the brake acts in full.
+pub fn is_strong(m: Plan) -> bool
+    requires { ⌜ Small m ⌝ }
+    ensures { λ r. ⌜ r ≡ leb (m .down + 9000000 * m .tr) (2 * m .brake * m .tr + m .up) ⌝ }
+{
+    m.down + 9000000 * m.tr <= 2 * m.brake * m.tr + m.up
+}
