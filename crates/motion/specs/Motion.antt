@@ -7,7 +7,7 @@ use Rattle.train.specs.Slope as slope
 use Rattle.train.specs.Slope.{dr}
 use Rattle.motion.specs.declared.Overrun.{Overrun}
 
--- document 000, section 5.2.1, by its product rule
+-- 0.9 dr: document 000, section 5.2.1, by its product rule
 unfoldable pub dp : Overrun → Fraction
 dp o = (9 over 10) *q dr (o .weight)
 
@@ -33,10 +33,11 @@ module _ (k : Coefficients) (o : Overrun) where
   abbrev pub braked : Fraction → Fraction → Fraction → Fraction
   braked t r c = cond (leq t TM) (whole 0) (cond (leq t (TM +q TR)) r c)
 
+  -- di up to TM, di + dp (t - TM) / TR up to TM + TR, di + dp for ever, also past standstill
   unfoldable pub decelerationAt : Fraction → Fraction
   decelerationAt t = di +q braked t (dp o *q u t /q TR) (dp o)
 
-  -- for ever, also past standstill
+  -- what that makes of the speed and of the place (theorems `speed-loses` and `place-gains` of proofs/Calculus.antt)
   unfoldable pub speedAt : Fraction → Fraction
   speedAt t = speed (o .v) -q di *q t -q braked t (dp o *q (u t *q u t) /q (whole 2 *q TR)) (dp o *q (TR /q whole 2 +q w t))
 

@@ -38,6 +38,7 @@ less-than-a-millimetre m t s h =
 -- a promise with so many millimetres is one with more
 pub wider : (k : Coefficients) (o : Overrun) (a b mm ms : ℕ) → a ≤ b → Promise k o a mm ms → Promise k o b mm ms
 wider k o a b mm ms h p = record {
+  number = p .number;
   never = p .never;
   near = ≤q-<q-trans ((mm over 1000) -q (b over 1000)) ((mm over 1000) -q (a over 1000)) (placeAt k o (ms over 1000)) (lit< tt) (lit< tt) (omega arith) (p .near);
 }
@@ -97,6 +98,7 @@ module _ (k : Coefficients) (o : Overrun) (m : Plan) (is : IsPlan k o m) (s : Sm
 
     pub promised : Promise k o 2 D t
     promised = record {
+      number = λ p q l. place-is k o m is p q l (s .some) .left;
       never = λ p q l.
           ≤q-cong (≈q-sym (place-is k o m is p q l (s .some))) (≈q-refl {a = D over 1000} (lit< tt)) (omega (arith, never-beyond p q l));
       near =

@@ -39,7 +39,7 @@ lastBelow (suc n) b = cond (b n) n (lastBelow n b)
 abbrev pub refused : ℕ → Stop
 refused n = record { refusal = n; distance = record { 0 = 0 }; moment = 0 }
 
--- how much less than the answer the place at the given moment may be, in millimetres
+-- the place at the given moment is more than the answer less so many millimetres
 abbrev pub leeway : ℕ
 leeway = 5
 
@@ -58,15 +58,16 @@ module _ (k : Coefficients) (o : Overrun) where
   unfoldable pub moment : ℕ
   moment = lastBelow (2 ^ 20) (λ t. leq (whole 0) (speedAt k o (t over 1000)))
 
-  -- the place then, raised to the least whole millimetre not below it, and one more for what is gone after that millisecond
+  -- the place then, raised to the least whole millimetre not below it, and one more for what is still gone before the next
   unfoldable pub distance : ℕ
   distance = inMillimetres (placeAt k o (moment over 1000)) .0 + 1
 
   unfoldable pub stopOf : Stop
   stopOf = cond (eqb (firstOf rampRefusals) 0) (record { refusal = 0; distance = record { 0 = distance }; moment = moment }) (refused (firstOf rampRefusals))
 
-  -- at no moment p / q from 0 on is the place beyond mm, and at ms it is more than mm less so many millimetres
+  -- at every moment p / q from 0 on the place is a number and not beyond mm, and at ms it is more than mm less so many millimetres
   pub record Promise (slack mm ms : ℕ) : Type 0 where
+    pub number : (p q : ℕ) → 0 < q → 0 < placeAt k o (p over q) .over
     pub never : (p q : ℕ) → 0 < q → placeAt k o (p over q) ≤q (mm over 1000)
     pub near : (mm over 1000) -q (slack over 1000) <q placeAt k o (ms over 1000)
 

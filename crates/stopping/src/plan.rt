@@ -1,4 +1,4 @@
-// The motion in whole numbers.
+// The plan of a motion, and whether its brake is strong enough.
 ghost use mathlib.Core.Path.{_≡_};
 ghost use Prim.Native.Nat.{_+_, _*_};
 ghost use lib.Dec.{leb};
@@ -20,6 +20,7 @@ pub fn plan_of(k: Coefficients, o: Overrun) -> Plan
     let pull = train::slope::pull_of(k, o.gradient);
     // dp = 0.9 × dr, in 10⁻⁷ m/s²
     let dp7 = 90 * train::slope::nominal(o.weight);
+    // one km/h is 5/18 m/s, and the speed is in (10⁻¹⁰ m/s) / (18 tr)
     Plan {
         start: 50000000000 * speed * tr,
         up: 18 * pull.up7 * tr,

@@ -28,6 +28,37 @@ impl Random {
         }
     }
 
+    /// Mostly from `least` to `most`, both ends among them, and now and then what lies outside.
+    pub fn near(&mut self, least: u32, most: u32) -> u32 {
+        match self.below(64) {
+            0 => most + 1,
+            1 => u32::MAX,
+            2 => least.saturating_sub(1),
+            3 => least,
+            4 => most,
+            _ => least + self.below((most - least + 1) as u64) as u32,
+        }
+    }
+
+    /// Mostly of document 01's list, and now and then beside it.
+    pub fn braked_weight(&mut self) -> u32 {
+        match self.below(32) {
+            0 => self.near(40, 170),
+            _ => 45 + 5 * self.below(24) as u32,
+        }
+    }
+
+    /// Mostly from -35 to 35.
+    pub fn gradient(&mut self) -> i32 {
+        match self.below(64) {
+            0 => 36,
+            1 => -36,
+            2 => i32::MIN,
+            3 => i32::MAX,
+            _ => self.below(71) as i32 - 35,
+        }
+    }
+
     /// A number of at most `bits` bits, 0 to 192.
     pub fn wide(&mut self, bits: u32) -> Wide {
         let mut part = |from: u32| match bits.saturating_sub(from) {

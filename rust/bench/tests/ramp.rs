@@ -27,46 +27,13 @@ fn check(braked_weight: u32, gradient: i32, v: u32, tm: u32, tr: u32) -> u32 {
     stop.refusal
 }
 
-/// Mostly what is accepted, and now and then what lies outside a span.
-struct Inputs(Random);
-
-impl Inputs {
-    fn near(&mut self, least: u32, most: u32) -> u32 {
-        match self.0.below(64) {
-            0 => most + 1,
-            1 => u32::MAX,
-            2 => least.saturating_sub(1),
-            3 => least,
-            4 => most,
-            _ => least + self.0.below((most - least + 1) as u64) as u32,
-        }
-    }
-
-    fn weight(&mut self) -> u32 {
-        match self.0.below(32) {
-            0 => self.near(40, 165),
-            _ => 45 + 5 * self.0.below(24) as u32,
-        }
-    }
-
-    fn gradient(&mut self) -> i32 {
-        match self.0.below(64) {
-            0 => 36,
-            1 => -36,
-            2 => i32::MIN,
-            3 => i32::MAX,
-            _ => self.0.below(71) as i32 - 35,
-        }
-    }
-}
-
 #[test]
 fn answers_at_random() {
-    let mut inputs = Inputs(Random(51));
+    let mut random = Random(51);
     let mut seen = [0; 12];
     for _ in 0..50_000 {
-        let (weight, gradient) = (inputs.weight(), inputs.gradient());
-        let (v, tm, tr) = (inputs.near(1, 100), inputs.near(0, 2000), inputs.near(1, 3000));
+        let (weight, gradient) = (random.braked_weight(), random.gradient());
+        let (v, tm, tr) = (random.near(1, 100), random.near(0, 2000), random.near(1, 3000));
         seen[check(weight, gradient, v, tm, tr) as usize] += 1;
     }
     for refusal in [0, 1, 3, 5, 6, 10] {

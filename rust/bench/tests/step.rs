@@ -32,52 +32,29 @@ fn check(t: Train, v: u32, v0: u32, gradient: i32) -> u32 {
     d.refusal
 }
 
-/// Mostly what is accepted, and now and then what lies outside a span.
-struct Inputs(Random);
-
-impl Inputs {
-    fn near(&mut self, most: u32) -> u32 {
-        match self.0.below(64) {
-            0 => most + 1,
-            1 => u32::MAX,
-            _ => self.0.below(most as u64 + 1) as u32,
-        }
+fn train(random: &mut Random) -> Train {
+    Train {
+        freight: random.below(2) == 0,
+        electropneumatic: random.below(2) == 0,
+        braked_weight: random.braked_weight(),
+        length: random.near(0, 1000),
+        top_speed: random.near(1, 330),
     }
+}
 
-    fn train(&mut self) -> Train {
-        let weight = 45 + 5 * self.0.below(24) as u32;
-        Train {
-            freight: self.0.below(2) == 0,
-            electropneumatic: self.0.below(2) == 0,
-            braked_weight: if self.0.below(32) == 0 { self.near(170) } else { weight },
-            length: self.near(1000),
-            top_speed: self.near(330),
-        }
-    }
-
-    fn gradient(&mut self) -> i32 {
-        match self.0.below(64) {
-            0 => 36,
-            1 => -36,
-            2 => i32::MIN,
-            3 => i32::MAX,
-            _ => self.0.below(71) as i32 - 35,
-        }
-    }
-
-    fn speeds(&mut self) -> (u32, u32) {
-        let v = self.near(330);
-        let v0 = if self.0.below(16) == 0 { self.near(330) } else { self.0.below(v as u64 + 1) as u32 };
-        (v, v0)
-    }
+/// V, and mostly a V0 that is not above it.
+fn speeds(random: &mut Random) -> (u32, u32) {
+    let v = random.near(0, 330);
+    let v0 = if random.below(16) == 0 { random.near(0, 330) } else { random.below(v as u64 + 1) as u32 };
+    (v, v0)
 }
 
 #[test]
 fn distances_at_random() {
-    let mut inputs = Inputs(Random(21));
+    let mut random = Random(21);
     let mut seen = [0; 12];
     for _ in 0..200_000 {
-        let (t, (v, v0), gradient) = (inputs.train(), inputs.speeds(), inputs.gradient());
+        let (t, (v, v0), gradient) = (train(&mut random), speeds(&mut random), random.gradient());
         seen[check(t, v, v0, gradient) as usize] += 1;
     }
     for refusal in [0, 1, 2, 3, 4, 5, 10] {
@@ -147,17 +124,17 @@ fn check_row(curve: Curve, t: Train, v0: u32, gradient: i32, places: usize) -> u
 
 #[test]
 fn rows_between_untouched_places() {
-    let mut inputs = Inputs(Random(22));
+    let mut random = Random(22);
     let mut seen = [0; 12];
     for round in 0..2_000 {
-        let (t, gradient) = (inputs.train(), inputs.gradient());
+        let (t, gradient) = (train(&mut random), random.gradient());
         let top = t.top_speed.min(330);
-        let v0 = if round % 8 == 0 { inputs.near(330) } else { inputs.0.below(top as u64 + 1) as u32 };
+        let v0 = if round % 8 == 0 { random.near(0, 330) } else { random.below(top as u64 + 1) as u32 };
         let needed = (top + 1).saturating_sub(v0) as usize;
         let places = match round % 4 {
             0 => needed,
             1 => needed.saturating_sub(1),
-            _ => needed + inputs.0.below(20) as usize,
+            _ => needed + random.below(20) as usize,
         };
         seen[check_row(CURVES[round % 4], t, v0, gradient, places) as usize] += 1;
         seen[check_row(CURVES[(round + 1) % 4], t, v0, gradient, 0) as usize] += 1;
