@@ -5,15 +5,15 @@ use Prim.Native.Nat.{ℕ, _<_}
 use native.Mathlib.Omega.{arith}
 use borrow.Author.Tests.{ltb-false, ne-eqb}
 use lib.Dec.{lit≤}
-use Rattle.train.specs.declared.Gradient.{Gradient}
 use Rattle.train.specs.declared.Coefficients.{Coefficients}
-use Rattle.train.specs.Refusal.{firstOf, weightRefusals, gradientRefusals}
+use Rattle.train.specs.Coefficients.{first}
+use Rattle.train.specs.Refusal.{firstOf}
 use Rattle.train.proofs.Refusals.{Rising, rising-before, first-after, first-before, none-holds}
 use Rattle.motion.specs.declared.Overrun.{Overrun}
 use Rattle.motion.specs.declared.Plan.{Plan}
+use Rattle.stopping.specs.Stop.{Fair}
 use Rattle.ramp.specs.declared.Stop.{Stop}
 use Rattle.ramp.specs.Answer.{inputs, strong, weak, rampRefusals, refused, stopOf, RampAnswers}
-use Rattle.stopping.specs.Stop.{Fair}
 use Rattle.ramp.specs.Begin.{IsReady, Stops}
 use Rattle.ramp.proofs.Moment.{moment-is}
 use Rattle.ramp.proofs.Kept.{promised, distance-is, wider}
@@ -22,19 +22,13 @@ use Rattle.ramp.proofs.Kept.{promised, distance-is, wider}
 pub ramp-rising : (k : Coefficients) (o : Overrun) → Rising 1 (rampRefusals k o)
 ramp-rising k o = (tt, (tt, (tt, (tt, (tt, (tt, (tt, (tt, (tt, (tt, (tt, tt)))))))))))
 
-pub gradient-rising : (g : Gradient) → Rising 1 (gradientRefusals g)
-gradient-rising g = (tt, (tt, tt))
-
 module _ (o : Overrun) where
-  pub inputs-rising : (k : Coefficients) → Rising 1 (inputs o)
-  inputs-rising k = rising-before 1 (inputs o) (weak k o) (ramp-rising k o)
+  inputs-rising : Rising 1 (inputs o)
+  inputs-rising = rising-before 1 (inputs o) (weak first o) (ramp-rising first o)
 
-  pub weight-rising : Rising 1 (weightRefusals (o .weight))
-  weight-rising = (tt, (tt, (tt, tt)))
-
-  pub inputs-fit : (k : Coefficients) → firstOf (inputs o) ≡ 0 → Fair o
-  inputs-fit k h =
-      let n = none-holds 0 (inputs o) (inputs-rising k) h in
+  pub inputs-fit : firstOf (inputs o) ≡ 0 → Fair o
+  inputs-fit h =
+      let n = none-holds 0 (inputs o) inputs-rising h in
       let v = n .1 .1 .1 in
       let g = v .1 .1 in
       let t = g .1 .1 in
@@ -53,7 +47,7 @@ module _ (k : Coefficients) (o : Overrun) where
 
   module _ (z : firstOf (inputs o) ≡ 0) where
     decides : firstOf (rampRefusals k o) ≡ firstOf (weak k o)
-    decides = first-after 0 (inputs o) (weak k o) (inputs-rising o k) z
+    decides = first-after 0 (inputs o) (weak k o) (inputs-rising o) z
 
     pub by-weakness : strong k o ≡ false → firstOf (rampRefusals k o) ≡ 10
     by-weakness e = decides ∙ rw e refl

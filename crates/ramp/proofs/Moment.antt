@@ -21,8 +21,8 @@ use Rattle.motion.specs.Motion.{speedAt, placeAt}
 use Rattle.motion.specs.Plan.{IsPlan, fast, slow, gain, loss}
 use Rattle.motion.proofs.Furthest.{earlier, fast-fine, slow-fine, gain-fine, loss-fine}
 use Rattle.motion.proofs.Phases.{place-is, speed-is}
-use Rattle.ramp.specs.Answer.{lastBelow, moment}
 use Rattle.stopping.specs.Stop.{Turns, longest}
+use Rattle.ramp.specs.Answer.{lastBelow, moment}
 
 last-is : (n t : ℕ) (b : ℕ → Bool) → t < n → b t ≡ true → ((s : ℕ) → t < s → b s ≡ false) → t ≡ lastBelow n b
 unfolding lastBelow

@@ -8,7 +8,8 @@ use native.Mathlib.Omega.{arith}
 use native.Mathlib.Nat.{le-trans, le-of-eq}
 use lib.Dec.{T, leb, leb→le}
 use Rattle.train.specs.declared.Train.{Train}
-use Rattle.train.specs.Refusal.{Refusal, firstOf, weightRefusals, lengthRefusals, trainRefusals}
+use Rattle.train.specs.declared.Gradient.{Gradient}
+use Rattle.train.specs.Refusal.{Refusal, firstOf, weightRefusals, trainRefusals, gradientRefusals}
 
 -- the numbers rise from n on
 abbrev pub Rising : ℕ → List Refusal → Type 0
@@ -22,8 +23,11 @@ rising-before n (c ∷ a) b r = (r .0, rising-before (c .number) a b (r .1))
 pub train-rising : (t : Train) → Rising 1 (trainRefusals t)
 train-rising t = (tt, (tt, (tt, (tt, (tt, (tt, tt))))))
 
-pub weight-rising : (t : Train) → Rising 1 (weightRefusals (t .weight))
-weight-rising t = rising-before 1 (weightRefusals (t .weight)) (lengthRefusals t) (train-rising t)
+pub weight-rising : (w : ℕ) → Rising 1 (weightRefusals w)
+weight-rising w = (tt, (tt, (tt, tt)))
+
+pub gradient-rising : (g : Gradient) → Rising 1 (gradientRefusals g)
+gradient-rising g = (tt, (tt, tt))
 
 -- where the first of two lists turns nothing away, the second decides; else the first does
 pub first-after : (n : ℕ) (a b : List Refusal) → Rising (suc n) a → firstOf a ≡ 0 → firstOf (a ++ b) ≡ firstOf b

@@ -31,7 +31,7 @@ returns c =
     (c .if1 .taken, by-inputs (a .k) (a .o) _ (c .if1 .taken) e)
 
 plan-of-requires : tie.Need-plan-of-requires
-plan-of-requires c κs = let s = c .before .before in (s .pre, inputs-fit (s .args .o) (s .args .k) (passed c))
+plan-of-requires c κs = let s = c .before .before in (s .pre, inputs-fit (s .args .o) (passed c))
 
 is-strong-requires : tie.Need-is-strong-requires
 is-strong-requires c κs = search needs

@@ -6,9 +6,8 @@ use borrow.Author.Needs.{needs}
 use borrow.Author.Tests.{lt-ltb, le-ltb}
 use native.Mathlib.Omega.{arith}
 use Rattle.train.specs.Refusal.{firstOf, weightRefusals, gradientRefusals}
-use Rattle.train.proofs.Refusals.{first-after, first-before}
+use Rattle.train.proofs.Refusals.{weight-rising, gradient-rising, first-after, first-before}
 use Rattle.ramp.specs.Answer.{speedRefusals, timeRefusals, inputs}
-use Rattle.ramp.proofs.Answers.{weight-rising, gradient-rising}
 use Rattle.ramp.proofs.turned_away.Statement.{statement}
 use Rattle.ramp.proofs.turned_away.Tie as tie
 
@@ -17,7 +16,7 @@ after : (c : tie.Else1) (n : ℕ) → let o = c .before .before .before .args .o
     firstOf (speedRefusals (o .v) ++ (gradientRefusals (o .gradient) ++ timeRefusals (o .tm) (o .tr))) ≡ n → n ≡ firstOf (inputs o)
 after c n e =
     let o = c .before .before .before .args .o in
-    sym (first-after 0 (weightRefusals (o .weight)) (speedRefusals (o .v) ++ (gradientRefusals (o .gradient) ++ timeRefusals (o .tm) (o .tr))) (weight-rising o) (omega (arith, c .if1 .left, c .before .of-weight .ensures)) ∙ e)
+    sym (first-after 0 (weightRefusals (o .weight)) (speedRefusals (o .v) ++ (gradientRefusals (o .gradient) ++ timeRefusals (o .tm) (o .tr))) (weight-rising (o .weight)) (omega (arith, c .if1 .left, c .before .of-weight .ensures)) ∙ e)
 
 -- nor the speed
 on : (c : tie.Else3) (n : ℕ) → let o = c .before .before .before .before .before .args .o in

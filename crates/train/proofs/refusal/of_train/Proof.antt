@@ -13,7 +13,7 @@ use Rattle.train.proofs.refusal.of_train.Tie as tie
 after : (c : tie.Else1) (n : ℕ) → let t = c .before .before .before .before .args .train in firstOf (lengthRefusals t) ≡ n → n ≡ firstOf (trainRefusals t)
 after c n e =
     let t = c .before .before .before .before .args .train in
-    sym (first-after 0 (weightRefusals (t .weight)) (lengthRefusals t) (weight-rising t) (omega (arith, c .if1 .left, c .before .of-weight .ensures)) ∙ e)
+    sym (first-after 0 (weightRefusals (t .weight)) (lengthRefusals t) (weight-rising (t .weight)) (omega (arith, c .if1 .left, c .before .of-weight .ensures)) ∙ e)
 
 of-weight-requires : tie.Need-of-weight-requires
 of-weight-requires c κs = search needs
