@@ -3,6 +3,7 @@
 use reference::fraction::Fraction;
 use reference::ramp::{greatest_place, keeps_promise, motion, ramp, Motion, Phase, Stop};
 use reference::train::dr;
+use reference::units::millimetres;
 
 /// BW, gradient, V, TM and TR as `ramp` takes them.
 type Inputs = (u32, i32, u32, u32, u32);
@@ -29,11 +30,6 @@ fn bounds((braked_weight, gradient, v, tm, tr): Inputs) -> (Fraction, Fraction) 
 
 fn kept((braked_weight, gradient, v, tm, tr): Inputs, distance: u32, moment: u32) -> bool {
     keeps_promise(braked_weight, gradient, v, tm, tr, distance, moment)
-}
-
-/// The least whole millimetre not below a place in metres.
-fn millimetres(metres: &Fraction) -> u32 {
-    u32::try_from((metres * fraction(1000, 1)).raised()).expect("a place of 32 bits, not below 0")
 }
 
 /// Numbers that look random and are the same in every run (Marsaglia's xorshift).
