@@ -24,9 +24,9 @@ use Rattle.stopping.specs.Stop.{Small, Turns, placeUp}
 use Rattle.ramp.specs.Answer.{strong, distance, Promise}
 use Rattle.ramp.proofs.Moment.{place-at, moment-is}
 
--- after the last millisecond before it rolls back, the train gets less than a millimetre further
-less-than-a-millimetre : (m : Plan) (t : ℕ) → Small m → Turns m t → more m t 1 ≤ less m t 1 + 108 * 10 ^ 10 * m .tr
-less-than-a-millimetre m t s h =
+-- after the last millisecond before it rolls back, the train gets at most a millimetre further
+at-most-a-millimetre : (m : Plan) (t : ℕ) → Small m → Turns m t → more m t 1 ≤ less m t 1 + 108 * 10 ^ 10 * m .tr
+at-most-a-millimetre m t s h =
     let b : built (m .tm) (m .tr) (t + 1) ≤ m .tr = omega arith in
     cert (m .start ∷ m .down ∷ m .up ∷ m .brake ∷ m .tr ∷ t ∷ squares (m .tm) (m .tr) t ∷ squares (m .tm) (m .tr) (t + 1) ∷ built (m .tm) (m .tr) (t + 1) ∷ [])
     (times (num 6) (Fast x0 x1 (x5 ⊕ num 1)) (Slow x2 x3 (x5 ⊕ num 1) x7) (le-of-lt (h .back))
@@ -93,7 +93,7 @@ module _ (k : Coefficients) (o : Overrun) (m : Plan) (is : IsPlan k o m) (s : Sm
     never-beyond p q l =
         cert (gain (finer q m) (1000 * p) ∷ loss (finer q m) (1000 * p) ∷ gain m t ∷ loss m t ∷ more m t 1 ∷ less m t 1 ∷ q ∷ m .tr ∷ D ∷ [])
         (times (num 1000) (x0 ⊕ cubed ⊗ (x3 ⊕ x5)) (x1 ⊕ cubed ⊗ (x2 ⊕ x4)) (furthest-fine m q t 1 l (lit< tt) (h .still) (le-of-lt (h .back)) (1000 * p))
-        (times (num 1000 ⊗ cubed) x4 (x5 ⊕ unitE) (less-than-a-millimetre m t s h) (times (num 1000 ⊗ cubed) (x2 ⊕ unitE) (x8 ⊗ unitE ⊕ x3) enough done)))
+        (times (num 1000 ⊗ cubed) x4 (x5 ⊕ unitE) (at-most-a-millimetre m t s h) (times (num 1000 ⊗ cubed) (x2 ⊕ unitE) (x8 ⊗ unitE ⊕ x3) enough done)))
         (num 1000 ⊗ x0) (x8 ⊗ (num (108 * 10 ^ 13) ⊗ x7 ⊗ cubed) ⊕ num 1000 ⊗ x1) refl
 
     pub promised : Promise k o 2 D t

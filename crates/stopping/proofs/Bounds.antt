@@ -59,7 +59,7 @@ module _ (m : Plan) (t : ℕ) (s : Small m) (l : t ≤ longest) where
       let b : 2 * m .brake * cubes (m .tm) (m .tr) t ≤ 192780000 * 1152921504606846976 = mul-le-mul {n₂ = 192780000} (omega (arith, s .brake)) c in
       lt-of-le-of-lt (add-le-add a b) (lit< tt)
 
-  -- 300 km are never reached
+  -- no place is beyond 300 km
   pub gain-most : gain m t ≤ 300000000 * (108 * 10 ^ 10 * m .tr)
   gain-most =
       let d : m .down * t ≤ 74163600 * m .tr * 1048576 = mul-le-mul (s .down) l in
@@ -67,6 +67,24 @@ module _ (m : Plan) (t : ℕ) (s : Small m) (l : t ≤ longest) where
       cert (m .tr ∷ t ∷ (2 * m .start + m .down * t) ∷ [])
       (times (num 3 ⊗ x1) x2 (num 88000000000000 ⊗ x0) w (times (num 264000000000000 ⊗ x0) x1 (num 1048576) l done))
       (num 3 ⊗ x1 ⊗ x2) (num 300000000 ⊗ (num (108 * 10 ^ 10) ⊗ x0)) refl
+
+  -- the quotient that gives the place, by what the code has for gain - loss and for a millimetre
+  pub quotient-fits : (n d : ℕ) → n ≡ gain m t - loss m t → d ≡ 108 * 10 ^ 10 * m .tr → (0 < d) × (n ≤ 4294967295 * d)
+  quotient-fits n d e f =
+      let g = gain-most in
+      let i : 0 < 108 * 10 ^ 10 * m .tr = mul-pos (lit< tt) (s .some) in
+      let h : gain m t - loss m t ≤ 4294967295 * (108 * 10 ^ 10 * m .tr) = omega arith in
+      rw (e, f) (i, h)
+
+  pub place-most : placeUp m t ≤ 300000000
+  unfolding placeUp
+  place-most =
+      let h : gain m t - loss m t ≤ 300000000 * (108 * 10 ^ 10 * m .tr) = omega (arith, gain-most) in
+      raised-over-le (gain m t - loss m t) (108 * 10 ^ 10 * m .tr) 300000000 (mul-pos (lit< tt) (s .some)) .1 h
+
+  pub place-from : (n d r : ℕ) → n ≡ gain m t - loss m t → d ≡ 108 * 10 ^ 10 * m .tr → r ≡ raised (n over d) → (r ≡ placeUp m t) × (r ≤ 300000000)
+  unfolding placeUp
+  place-from n d r e f g = let i : r ≡ placeUp m t = rw (e, f) at g in (i, rw i place-most)
 
 -- the brake's part of the speed, by what the code has for the squares
 pub brake-way : (m : Plan) (t x : ℕ) → Small m → t ≤ longest → x ≡ squares (m .tm) (m .tr) t → m .brake * x ≤ 6064334438400000000
@@ -83,22 +101,3 @@ module _ (tm tr t a f : ℕ) (e : a ≡ t - tm) (e′ : f ≡ t - (tm + tr)) whe
   pub cubes-from : a * a * a - f * f * f ≡ cubes tm tr t
   unfolding cubes
   cubes-from = rw (e, e′)
-
--- the quotient that gives the place, by what the code has for gain - loss and for a millimetre
-module _ (m : Plan) (t : ℕ) (s : Small m) (l : t ≤ longest) where
-  pub quotient-fits : (n d : ℕ) → n ≡ gain m t - loss m t → d ≡ 108 * 10 ^ 10 * m .tr → (0 < d) × (n ≤ 4294967295 * d)
-  quotient-fits n d e f =
-      let g = gain-most m t s l in
-      let i : 0 < 108 * 10 ^ 10 * m .tr = mul-pos (lit< tt) (s .some) in
-      let h : gain m t - loss m t ≤ 4294967295 * (108 * 10 ^ 10 * m .tr) = omega arith in
-      rw (e, f) (i, h)
-
-  pub place-most : placeUp m t ≤ 300000000
-  unfolding placeUp
-  place-most =
-      let h : gain m t - loss m t ≤ 300000000 * (108 * 10 ^ 10 * m .tr) = omega (arith, gain-most m t s l) in
-      raised-over-le (gain m t - loss m t) (108 * 10 ^ 10 * m .tr) 300000000 (mul-pos (lit< tt) (s .some)) .1 h
-
-  pub place-from : (n d r : ℕ) → n ≡ gain m t - loss m t → d ≡ 108 * 10 ^ 10 * m .tr → r ≡ raised (n over d) → (r ≡ placeUp m t) × (r ≤ 300000000)
-  unfolding placeUp
-  place-from n d r e f g = let i : r ≡ placeUp m t = rw (e, f) at g in (i, rw i place-most)

@@ -41,6 +41,7 @@ pub fn place_up(m: Plan, t: u64) -> u32
     requires { ⌜ Small m × (t ≤ longest) × (loss m t ≤ gain m t) ⌝ }
     ensures { λ r. ⌜ (r ≡ placeUp m t) × (r ≤ 300000000) ⌝ }
 {
+    // a millimetre, as gain and loss count
     let unit = 1080000000000 * m.tr;
     let place = wide::difference(gain_at(m, t), loss_at(m, t));
     wide::quotient::quotient_up(place, wide::from_word(unit))
