@@ -21,8 +21,8 @@ abbrev pub less : Plan → ℕ → ℕ → ℕ
 less m t H = 6 * H * slow m t
 
 -- the place at t is at most that at t₀ and what can be gone in H from there
-abbrev pub Within : Plan → ℕ → ℕ → ℕ → Type 0
-Within m t₀ H t = gain m t + (loss m t₀ + less m t₀ H) ≤ loss m t + (gain m t₀ + more m t₀ H)
+abbrev pub NoFurther : Plan → ℕ → ℕ → ℕ → Type 0
+NoFurther m t₀ H t = gain m t + (loss m t₀ + less m t₀ H) ≤ loss m t + (gain m t₀ + more m t₀ H)
 
 -- the plan's numbers as expressions
 abbrev pub Fast : Expr → Expr → Expr → Expr
@@ -74,7 +74,7 @@ module _ (m : Plan) where
       omega arith
 
   -- soon after a moment of speed at least 0
-  soon : (s z y : ℕ) → slow m s ≤ fast m s → Within m s (z + y) (s + z)
+  soon : (s z y : ℕ) → slow m s ≤ fast m s → NoFurther m s (z + y) (s + z)
   soon s z y v =
       cert (env s z y)
       (times (num 2 ⊗ dp) (C ⊕ num 3 ⊗ S ⊗ h ⊕ num 3 ⊗ b ⊗ h ⊗ h) C′ (tangent (m .tm) (m .tr) s z) (times (num 6 ⊗ k) (Slow up dp t S) (Fast Vo dn t) v done))
@@ -94,7 +94,7 @@ module _ (m : Plan) where
       (Gain Vo dn (t ⊕ h) ⊕ Loss up dp t C) (Gain Vo dn t ⊕ Loss up dp (t ⊕ h) C′) refl
 
 module _ (m : Plan) (t₀ H : ℕ) (l : 0 < H) (v₀ : slow m t₀ ≤ fast m t₀) (v₁ : fast m (t₀ + H) ≤ slow m (t₀ + H)) where
-  cases : (s : ℕ) → Dec (s ≤ t₀) → Dec (s ≤ t₀ + H) → Within m t₀ H s
+  cases : (s : ℕ) → Dec (s ≤ t₀) → Dec (s ≤ t₀ + H) → NoFurther m t₀ H s
   cases s (yes p) q =
       let (z, e) = le-dest p in
       let r : gain m s + loss m t₀ ≤ gain m t₀ + loss m s = rw e at (behind m s z (eq-zero-or-pos (s + z)) (rw e v₀)) in
@@ -106,11 +106,11 @@ module _ (m : Plan) (t₀ H : ℕ) (l : 0 < H) (v₀ : slow m t₀ ≤ fast m t�
   cases s (no p) (no q) =
       let (z, e) = le-dest (le-of-lt (lt-of-not-le q)) in
       let r : gain m s + loss m (t₀ + H) ≤ gain m (t₀ + H) + loss m s = rw e at (back m (t₀ + H) z (omega arith) v₁) in
-      let a : Within m t₀ H (t₀ + H) = rw (add-zero H) at (soon m t₀ H 0 v₀) in
+      let a : NoFurther m t₀ H (t₀ + H) = rw (add-zero H) at (soon m t₀ H 0 v₀) in
       omega arith
 
   -- the speed is at least 0 at t₀ and at most 0 at t₀ + H: at no time is the train further
-  pub furthest : (s : ℕ) → Within m t₀ H s
+  pub furthest : (s : ℕ) → NoFurther m t₀ H s
   furthest s = cases s (decLe s t₀) (decLe s (t₀ + H))
 
 -- the same motion with times in a unit q times as fine
