@@ -1,7 +1,7 @@
 -- Document 01, "Step distances"; document 002, sections 7.1 to 7.4 as they are printed. Times in s, speeds in m/s.
 use mathlib.Core.Bool.{Bool, cond}
 use lib.Dec.{leb, eqb}
-use Rattle.exact.specs.Fraction.{Fraction, whole, signed, _over_, _+q_, _-q_, _*q_, maxq, leq}
+use Rattle.exact.specs.Fraction.{Fraction, whole, signed, _over_, _+q_, _-q_, _*q_, maxq}
 use Rattle.train.specs.declared.Kmh.{Kmh}
 use Rattle.train.specs.declared.Train.{Train}
 use Rattle.train.specs.declared.Gradient.{Gradient}
@@ -9,6 +9,7 @@ use Rattle.train.specs.declared.Coefficients.{Coefficients}
 use Rattle.train.specs.Units.{speed}
 use Rattle.train.specs.Delay.{tf}
 use Rattle.train.specs.Slope.{di, dr}
+use Rattle.train.specs.Refusal.{strongEnough}
 
 -- section 8.1: not h, though its first value is the same
 abbrev pub tR : Fraction
@@ -35,6 +36,5 @@ module _ (k : Coefficients) (t : Train) (g : Gradient) (v v0 : Kmh) where
   unfoldable pub Vβ : Fraction
   Vβ = maxq (speed v -q di k g *q T k t) (speed v0)
 
-  -- dp + di is 0.05 m/s² or more (refusal 10)
   unfoldable pub strong : Bool
-  strong = leq (5 over 100) (dp +q di k g)
+  strong = strongEnough (dp +q di k g)

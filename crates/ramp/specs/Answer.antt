@@ -9,7 +9,7 @@ use Rattle.train.specs.declared.Kmh.{Kmh}
 use Rattle.train.specs.declared.Gradient.{Gradient}
 use Rattle.train.specs.declared.Coefficients.{Coefficients}
 use Rattle.train.specs.Units.{inMillimetres}
-use Rattle.train.specs.Refusal.{Refusal, _gives_, firstOf, weightRefusals, gradientRefusals}
+use Rattle.train.specs.Refusal.{Refusal, _gives_, firstOf, weightRefusals, gradientRefusals, strongEnough}
 use Rattle.motion.specs.declared.Overrun.{Overrun}
 use Rattle.motion.specs.Motion.{di, dp, speedAt, placeAt}
 use Rattle.ramp.specs.declared.Stop.{Stop}
@@ -30,7 +30,7 @@ timeRefusals tm tr = ltb 2000 tm gives 6 ∷ ltb tr 1 gives 6 ∷ ltb 3000 tr gi
 abbrev pub inputs : Overrun → List Refusal
 inputs o = weightRefusals (o .weight) ++ (speedRefusals (o .v) ++ (gradientRefusals (o .gradient) ++ timeRefusals (o .tm) (o .tr)))
 
--- the last number below n at which b holds
+-- the last number below n at which b holds, 0 where it holds at none
 unfoldable pub lastBelow : ℕ → (ℕ → Bool) → ℕ
 lastBelow zero b = 0
 lastBelow (suc n) b = cond (b n) n (lastBelow n b)
@@ -44,9 +44,8 @@ abbrev pub leeway : ℕ
 leeway = 5
 
 module _ (k : Coefficients) (o : Overrun) where
-  -- dp + di is 0.05 m/s² or more (refusal 10)
   unfoldable pub strong : Bool
-  strong = leq (5 over 100) (dp o +q di k o)
+  strong = strongEnough (dp o +q di k o)
 
   abbrev pub weak : List Refusal
   weak = not strong gives 10 ∷ []

@@ -3,6 +3,7 @@ use mathlib.Core.Bool.{Bool, cond}
 use mathlib.Core.List.{List, [], _∷_, _++_}
 use Prim.Native.Nat.{ℕ, _%_}
 use lib.Dec.{ltb}
+use Rattle.exact.specs.Fraction.{Fraction, _over_, leq}
 use Rattle.train.specs.declared.Train.{Train}
 use Rattle.train.specs.declared.Gradient.{Gradient}
 
@@ -32,3 +33,7 @@ trainRefusals t = weightRefusals (t .weight) ++ lengthRefusals t
 -- -35 to 35
 abbrev pub gradientRefusals : Gradient → List Refusal
 gradientRefusals g = ltb 35 (g .rise) gives 5 ∷ ltb 35 (g .fall) gives 5 ∷ []
+
+-- dp + di of 0.05 m/s² or more; less is refusal 10
+abbrev pub strongEnough : Fraction → Bool
+strongEnough deceleration = leq (5 over 100) deceleration

@@ -1,4 +1,4 @@
-//! Every cell of document 000's Allegato 1 against the exact ramp; the misprinted ones are named in the library.
+//! Every cell of document 000's Allegato 1 against the exact ramp; the misprinted ones are named in src/allegato.rs.
 
 use reference::allegato::{cells, tables, Cell, DEAD_TIME, MISPRINTS};
 use reference::fraction::Fraction;
