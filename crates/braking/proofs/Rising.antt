@@ -1,5 +1,5 @@
 -- Where nC is 0, as in the first values, the train brakes no weaker at a higher speed: dp + di does not fall with V.
-use mathlib.Core.Path.{_≡_, refl}
+use mathlib.Core.Path.{_≡_, refl, sym, _∙_}
 use mathlib.Core.Bool.{true}
 use mathlib.Core.List.{[], _∷_}
 use Prim.Native.Nat.{ℕ, _+_, _*_, _-_, _^_, _≤_, max}
@@ -20,8 +20,10 @@ use Rattle.train.specs.declared.Coefficients.{Coefficients}
 use Rattle.train.specs.Slope.{di}
 use Rattle.train.proofs.Decelerations.{di-is, dr-is}
 use Rattle.braking.specs.Braking.{KC, dp, strong}
-use Rattle.braking.specs.Plan.{sOf}
-use Rattle.braking.proofs.Exact.{s-pos, KC-is, K0-is}
+use Rattle.braking.specs.declared.Course.{Course}
+use Rattle.braking.specs.Plan.{sOf, Enough}
+use Rattle.braking.specs.Agreement.{IsCourse}
+use Rattle.braking.proofs.Exact.{s-pos, KC-is, K0-is, strong-is}
 use Rattle.braking.proofs.Steady.{power-is}
 
 module _ (k : Coefficients) (t : Train) (g : Gradient) (plus : k .nc .plus ≡ 0) (minus : k .nc .minus ≡ 0) (part : k .cr ≤ 100) where
@@ -63,3 +65,7 @@ module _ (k : Coefficients) (t : Train) (g : Gradient) (plus : k .nc .plus ≡ 0
     unfolding strong
     strong-stays e =
         le-leb _ _ (≤q-trans (5 over 100) (dp k t g v v0 +q di k g) (dp k t g w v0 +q di k g) (mul-pos (dp-is v v0 ahead .left) (di-is k g .left)) (leb-true _ _ e) braking-rises)
+
+    -- and so in the plan's whole numbers
+    pub enough-stays : (c : Course) → IsCourse k t g c → Enough c (v .0) (v0 .0) → Enough c (w .0) (v0 .0)
+    enough-stays c is e = leb-true _ _ (strong-is k t g c is w v0 (le-trans ahead on) ∙ strong-stays (sym (strong-is k t g c is v v0 ahead) ∙ le-leb _ _ e))

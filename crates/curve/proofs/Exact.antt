@@ -3,7 +3,7 @@ use mathlib.Core.Path.{_≡_, refl}
 use mathlib.Core.List.{List, [], _∷_}
 use Prim.Native.Nat.{ℕ, _+_, _*_, _-_, _^_, _≤_, _<_}
 use native.Mathlib.Omega.{arith}
-use native.Mathlib.Nat.{mul-pos}
+use native.Mathlib.Nat.{mul-pos, mul-comm, lt-of-not-le, not-le-of-lt}
 use lib.Dec.{leb, lit<}
 use Rattle.exact.specs.Fraction.{Fraction, whole, _over_, _+q_, _-q_, _*q_, _≤q_, _<q_, _≈q_, leq, Least, raised}
 use Rattle.exact.proofs.Polynomial.{Expr, num, _⊕_, _⊗_}
@@ -11,7 +11,7 @@ use Rattle.exact.proofs.Certificate.{x0, x1, x2, x3, x4, done, times, ring}
 use Rattle.exact.proofs.Shape.{shape, wholeE, overE, _+e_, _-e_, _*e_}
 use Rattle.exact.proofs.Order.{leb-agree}
 use Rattle.exact.proofs.Substitution.{≈q-refl, ≈q-sym, ≈q-trans, becomes, net, +q-cong, -q-cong, *q-cong, /q-over, ≤q-cong, <q-cong}
-use Rattle.exact.proofs.Raised.{raised-cong, raised-least}
+use Rattle.exact.proofs.Raised.{raised-cong, raised-least, raised-over-le}
 use Rattle.wide.specs.Value.{valueOf}
 use Rattle.train.specs.declared.Kmh.{Kmh}
 use Rattle.train.specs.declared.Metre.{Metre}
@@ -125,6 +125,10 @@ module _ (k : Coefficients) (t : Train) (g : Gradient) (c : Course) (is : IsCour
     curve-is curve.W = summed curve.W _ (ring ρ (x0 ⊗ x2 ⊕ x1 ⊗ x2 ⊕ num 150000000 ⊗ x3) (way 1 1) refl) W-is
     curve-is curve.P = summed curve.P _ (ring ρ (x0 ⊗ x2 ⊕ x1 ⊗ x2 ⊕ num 150000000 ⊗ x3 ⊕ num 150000000 ⊗ x3) (way 1 2) refl) P-is
 
+    -- the exact value is a number
+    pub number : (x : Curve) → 0 < formula k t g v v0 x .over
+    number x = curve-is x .left
+
     mm-is : (x : Curve) → whole 1000 *q formula k t g v v0 x ≈q sumAt x c (v .0) (v0 .0) over (81 * 10 ^ 20 * a)
     mm-is x =
         becomes (a ∷ sumAt x c (v .0) (v0 .0) ∷ []) done (wholeE (num 1000) *e shape x1 (num 0) (num (81 * 10 ^ 23) ⊗ x0)) (shape x1 (num 0) (num (81 * 10 ^ 20) ⊗ x0))
@@ -140,7 +144,16 @@ module _ (k : Coefficients) (t : Train) (g : Gradient) (c : Course) (is : IsCour
     unfolding distance
     distance-least x = raised-least _ (mm-is x .left)
 
-    -- the test of a climb
+    -- a distance is at most so many millimetres just where the products are, without a division
+    pub at-most-is : (x : Curve) (n : ℕ) → leb (sumAt x c (v .0) (v0 .0)) (81 * 10 ^ 20 * a * n) ≡ leb (distance k t g v v0 x .0) n
+    unfolding placeOf
+    at-most-is x n =
+        let unit = 81 * 10 ^ 20 * a in
+        let r = raised-over-le (sumAt x c (v .0) (v0 .0)) unit n (mul-pos (lit< tt) a-pos) in
+        let e : n * unit ≡ unit * n = mul-comm n unit in
+        rw (← distance-is x) (leb-agree _ _ _ _ (λ h. r .1 (rw e h)) (λ h. lt-of-not-le (λ i. not-le-of-lt h (rw e at (r .0 i)))))
+
+    -- and its exact value is so many metres
     pub fits-is : (x : Curve) (d : Metre) → leb (sumAt x c (v .0) (v0 .0)) (81 * 10 ^ 20 * a * (1000 * d .0)) ≡ leq (formula k t g v v0 x) (whole (d .0))
     fits-is x d =
         let e : 81 * 10 ^ 20 * a * (1000 * d .0) ≡ d .0 * (81 * 10 ^ 23 * a) =

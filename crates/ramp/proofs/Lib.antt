@@ -1,3 +1,4 @@
 mod Moment
 mod Kept
-mod Answers
+pub mod Answers
+pub mod Always

@@ -25,9 +25,8 @@ use Rattle.curve.specs.Step.{distance}
 use Rattle.braking.specs.Plan.{Near, Enough}
 use Rattle.curve.specs.Plan.{placeOf}
 use Rattle.braking.specs.Agreement.{IsCourse}
-use Rattle.braking.proofs.Exact.{strong-is}
 use Rattle.curve.proofs.Exact.{distance-is, distance-least}
-use Rattle.braking.proofs.Rising.{strong-stays}
+use Rattle.braking.proofs.Rising.{enough-stays}
 use Rattle.step.specs.Answer.{inputs, refused, weak, stepRefusals, stepOf, StepAnswers, speeds, rowRefusals, rowAnswer, rowAfter, RowAnswers}
 use Rattle.step.specs.Begin.{placesOf}
 
@@ -101,11 +100,7 @@ module _ (t : Train) (g : Gradient) (x : Curve) (v0 : Kmh) (lent : List ℕ) whe
     module _ (c : Course) (is : IsCourse first t g c) (enough : Enough c (v0 .0) (v0 .0)) where
       -- strong at V0, so at every speed above
       pub enough-on : (i : ℕ) → Enough c (v0 .0 + i) (v0 .0)
-      enough-on i =
-          let w = kmh (v0 .0 + i) in
-          let on : v0 .0 ≤ v0 .0 + i = le-add-right (v0 .0) i in
-          let s = strong-stays first t g refl refl (lit≤ tt) v0 w v0 (le-refl _) on (sym (strong-is first t g c is v0 v0 (le-refl _)) ∙ le-leb _ _ enough) in
-          leb-true _ _ (strong-is first t g c is w v0 on ∙ s)
+      enough-on i = enough-stays first t g refl refl (lit≤ tt) v0 (kmh (v0 .0 + i)) v0 (le-refl _) (le-add-right (v0 .0) i) c is enough
 
       abbrev exactly : ℕ → ℕ
       exactly i = distance first t g (kmh (v0 .0 + i)) v0 x .0

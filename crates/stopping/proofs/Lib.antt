@@ -1,3 +1,3 @@
 mod Bounds
-mod Whole
+pub mod Whole
 pub mod Rolling

@@ -1,9 +1,10 @@
 -- Every accepted train has begun to roll back by the longest time, so there is a last millisecond before it does.
 use mathlib.Core.Path.{_≡_, refl, sym, ap, _∙_}
 use mathlib.Core.List.{[], _∷_}
-use Prim.Native.Nat.{ℕ, _+_, _*_, _-_, _≤_, _<_}
+use Prim.Native.Nat.{ℕ, zero, suc, _+_, _*_, _-_, _≤_, _<_}
 use native.Mathlib.Omega.{arith}
-use native.Mathlib.Nat.{mul-zero, le-refl, le-of-eq}
+use native.Mathlib.Nat.{mul-zero, le-refl, le-of-eq, lt-of-not-le}
+use native.Mathlib.Decide.{decLe}
 use lib.Dec.{lit<}
 use Rattle.exact.proofs.Polynomial.{num, _⊕_, _⊗_}
 use Rattle.exact.proofs.Certificate.{x0, x1, x2, x3, x4, x5, x6, done, times, cert}
@@ -59,3 +60,17 @@ turned m low high b l =
     let i = b .apart in
     let e : low + 1 ≡ high = omega arith in
     record { still = b .still; back = rw e (b .back); early = omega (arith, b .early) }
+
+-- so there is one at which it turns
+turns-within : (m : Plan) (n low : ℕ) → slow m low ≤ fast m low → fast m (low + n) < slow m (low + n) → low + n ≤ longest → (t : ℕ) × Turns m t
+turns-within m zero low still back early = absurd (let e : low + 0 ≡ low = omega arith in let b : fast m low < slow m low = rw e at back in omega arith)
+turns-within m (suc n) low still back early =
+    let e : low + suc n ≡ low + 1 + n = omega arith in
+    go (decLe (slow m (low + 1)) (fast m (low + 1))) (λ s. turns-within m n (low + 1) s (rw e at back) (omega arith))
+  where
+    go : Dec (slow m (low + 1) ≤ fast m (low + 1)) → (slow m (low + 1) ≤ fast m (low + 1) → (t : ℕ) × Turns m t) → (t : ℕ) × Turns m t
+    go (yes s) on = on s
+    go (no b) on = (low, record { still = still; back = lt-of-not-le b; early = omega arith })
+
+pub turns : (m : Plan) → Small m → Enough m → (t : ℕ) × Turns m t
+turns m s h = turns-within m longest 0 (at-start m) (at-end m s h) (le-refl longest)

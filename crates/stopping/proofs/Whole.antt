@@ -2,8 +2,12 @@
 use Prim.Native.Nat.{ℕ, _*_, _≤_}
 use native.Mathlib.Omega.{arith}
 use native.Mathlib.Nat.{le-refl, mul-le-mul}
+use Rattle.train.specs.declared.Coefficients.{Coefficients}
+use Rattle.train.specs.Coefficients.{Within}
+use Rattle.train.proofs.Spans.{factor-small}
+use Rattle.train.proofs.Decelerations.{slope-small}
 use Rattle.motion.specs.declared.Overrun.{Overrun}
-use Rattle.motion.proofs.Planned.{planned}
+use Rattle.motion.proofs.Planned.{planned, planOf}
 use Rattle.stopping.specs.Stop.{Fair, Small}
 
 -- a factor of tr
@@ -22,3 +26,9 @@ is-small o up7 dn7 dr5 f u n d =
       some = omega (arith, f .some);
       tr = omega (arith, f .tr);
     }
+
+pub planOf-small : (k : Coefficients) (o : Overrun) → Within k → Fair o → Small (planOf k o)
+planOf-small k o w f =
+    let i = factor-small k (o .gradient) w in
+    let g = f .gradient in
+    is-small o _ _ _ f (slope-small _ _ i (g .rise)) (slope-small _ _ i (g .fall)) (omega (arith, f .weight))

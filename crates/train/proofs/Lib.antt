@@ -1,5 +1,6 @@
 mod Border
 mod Rows
+pub mod Delays
 pub mod Refusals
 pub mod Spans
 pub mod Decelerations

@@ -5,7 +5,8 @@ use mathlib.Core.List.{List, [], _∷_, _++_}
 use mathlib.Core.Logic.{_⊎_, inl, inr, ⊎-elim}
 use Prim.Native.Nat.{ℕ, zero, suc, _≤_}
 use native.Mathlib.Omega.{arith}
-use native.Mathlib.Nat.{le-trans, le-of-eq}
+use native.Mathlib.Nat.{le-trans, le-of-eq, lt-of-not-le}
+use native.Mathlib.Decide.{decLe}
 use lib.Dec.{T, leb, leb→le}
 use Rattle.train.specs.declared.Train.{Train}
 use Rattle.train.specs.declared.Gradient.{Gradient}
@@ -46,6 +47,14 @@ first-before (c ∷ a) b h = go (c .holds) h (first-before a b)
     go : (t : Bool) → (cond t (c .number) (firstOf a) ≡ 0 → ⊥) → ((firstOf a ≡ 0 → ⊥) → firstOf (a ++ b) ≡ firstOf a) → cond t (c .number) (firstOf (a ++ b)) ≡ cond t (c .number) (firstOf a)
     go true h ih = refl
     go false h ih = ih h
+
+-- where both turn nothing away, so does the first
+pub none-before : (a b : List Refusal) → firstOf (a ++ b) ≡ 0 → firstOf a ≡ 0
+none-before a b h = go (decLe (firstOf a) 0)
+  where
+    go : Dec (firstOf a ≤ 0) → firstOf a ≡ 0
+    go (yes i) = omega arith
+    go (no i) = absurd (let j = lt-of-not-le i in let e = first-before a b (λ z. omega arith) in omega arith)
 
 abbrev pub NoneHolds : List Refusal → Type 0
 NoneHolds [] = Unit

@@ -2,7 +2,7 @@
 
 use crate::fraction::{Fraction, Printed};
 use crate::train::{check_gradient, di, strong_enough, Train, TOP_SPAN};
-use crate::units::{metres_per_second, millimetres};
+use crate::units::{in_millimetres, metres_per_second, millimetres};
 
 /// Section 7: the on-board equipment's own delay, in seconds.
 const H: Printed = (10, 10);
@@ -103,6 +103,13 @@ pub fn step(train: Train, v: u32, v0: u32, gradient: i32) -> Result<[u32; 4], u3
     check(train, v, v0, gradient)?;
     let distances = Braking::new(train, gradient).distances(v, v0)?;
     Ok(distances.each_ref().map(millimetres))
+}
+
+/// P in millimetres before it is raised, or the refusal's number.
+pub fn exact_p(train: Train, v: u32, v0: u32, gradient: i32) -> Result<Fraction, u32> {
+    check(train, v, v0, gradient)?;
+    let [.., p] = Braking::new(train, gradient).distances(v, v0)?;
+    Ok(in_millimetres(&p))
 }
 
 /// One curve's distances for every V from V0 to the top speed, V0 first, or the refusal's number.

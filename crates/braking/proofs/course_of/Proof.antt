@@ -1,8 +1,8 @@
 -- `course_of`: every product fits for coefficients within their spans, and each number is the paper's.
-use mathlib.Core.Path.{refl}
 use Prim.Native.Nat.{_*_, _≤_}
 use native.Mathlib.Omega.{arith}
-use Rattle.braking.proofs.Steady.{T-is, R-is, power-is, delay-small, power-small}
+use Rattle.braking.proofs.Steady.{delay-small, power-small}
+use Rattle.braking.proofs.Coursed.{is-course}
 use borrow.Author.Needs.{needs}
 use Rattle.braking.proofs.course_of.Statement.{statement}
 use Rattle.braking.proofs.course_of.Tie as tie
@@ -67,30 +67,7 @@ returns c =
     let p = n .before .before in
     let d = p .before .before in
     let s = start n in
-    let k = s .args .k in
-    let t = s .args .train in
-    let e = d .of-train .ensures .0 in
-    let w = s .pre .0 in
-    record {
-      T = T-is k t (d .of-train .result) e;
-      R = R-is k t (d .of-train .result) e;
-      di = p .pull-of .ensures .0;
-      power = power-is (k .kr) (t .weight) (n .nominal .result) (n .nominal .ensures .0);
-      cr = refl;
-      plus = refl;
-      minus = refl;
-      vc = refl;
-      small = record {
-        t8 = omega (arith, tf-small d, w .h);
-        r8 = omega (arith, tf-small d);
-        up7 = p .pull-of .ensures .1;
-        dn7 = p .pull-of .ensures .2;
-        power = power-most n;
-        cr = w .cr;
-        plus = w .plus;
-        minus = w .minus;
-      };
-    }
+    is-course (s .args .k) (s .args .train) (s .args .g) (s .pre .0) _ _ _ _ (d .of-train .ensures) (p .pull-of .ensures) (n .nominal .ensures)
 
 pub course-of-spec : {M : Type 1} → statement M
 course-of-spec =

@@ -1,0 +1,3 @@
+mod Climbing
+mod Past
+mod Fit

@@ -1,0 +1,238 @@
+//! The approach query: how fast a train may creep past a closed signal, and how fast it may come up to it (document 01,
+//! "Approach"), and the desk's third demand held against any answer.
+
+use crate::ceilings::ceilings;
+use crate::fraction::Fraction;
+use crate::ramp::{greatest_place, ramp, DEAD_TIMES, RISE_TIMES, SPEEDS};
+use crate::sheet::{self, least};
+use crate::step::{exact_p, step, Curve};
+use crate::train::Train;
+use crate::units::in_millimetres;
+use std::fmt;
+use std::ops::RangeInclusive;
+
+const MILLIMETRES: u32 = 1000;
+
+/// The desk's third demand: one km/h more comes to less than this, in millimetres, short of the overlap's end.
+const ALLOWANCE: u32 = 5;
+
+/// Document 01, "What is turned away", numbers the two.
+#[derive(Clone, Copy, Debug, PartialEq, Eq)]
+pub enum Mark {
+    Curve = 1,
+    Release = 2,
+}
+
+/// Speeds in km/h; the permitted speed's W, SBI and EBI ceilings in 120ths of a km/h.
+#[derive(Clone, Copy, Debug, PartialEq, Eq)]
+pub struct Answer {
+    pub release: u32,
+    pub permitted: u32,
+    pub mark: Mark,
+    pub ceilings: [u32; 3],
+}
+
+/// Why an answer does not keep the third demand; speeds in km/h.
+#[derive(Clone, Copy, Debug, PartialEq, Eq)]
+pub enum Fault {
+    /// The query itself is refused by this number.
+    Refused(u32),
+    /// The release speed is over 100 or over the top speed.
+    TooFast,
+    /// At this speed, not over the release speed, some moment finds the train beyond the overlap's end.
+    Beyond(u32),
+    /// At one km/h more than the release speed no moment finds it less than 5 mm short of the overlap's end.
+    Short,
+    /// The mark is not the one that the release speed's own P distance gives.
+    Mark,
+    /// The permitted speed is not the release speed under mark "release", or is outside its span under mark "curve".
+    Permitted,
+    /// The P distance of this speed, not over the permitted speed, is over the distance to the signal.
+    Unfit(u32),
+    /// One km/h more than the permitted speed fits too.
+    Slow,
+}
+
+impl From<u32> for Fault {
+    fn from(refusal: u32) -> Fault {
+        Fault::Refused(refusal)
+    }
+}
+
+/// What the models need of the sheet: lengths in millimetres, gradients in per mille.
+struct Site {
+    overlap: u32,
+    /// From the head to the signal.
+    distance: u32,
+    /// The gradient of the overlap; none where it has no length.
+    past: Option<i32>,
+    ahead: i32,
+}
+
+/// Refusals 1, 2, 3, 6, 7, 8 and 9, the lowest first.
+///
+/// Document 01 takes the points of a span, fractions of a metre included, and `least` its whole metres. As stretches
+/// start at whole metres, a stretch that holds a point holds the whole metre at or before it, which is in the span too.
+fn site(train: Train, tm: u32, tr: u32, bytes: &[u8], number: u32, head: u32) -> Result<Site, u32> {
+    train.check()?;
+    if !DEAD_TIMES.contains(&tm) || !RISE_TIMES.contains(&tr) {
+        return Err(6);
+    }
+    let sheet = sheet::read(bytes).ok_or(7u32)?;
+    let signal = sheet.signals.get(number as usize).ok_or(8u32)?;
+    let (place, overlap) = (signal.place, u32::from(signal.overlap));
+    if head > place {
+        return Err(9);
+    }
+    let ahead = least(&sheet, head, place + 1).expect("a signal on the line");
+    Ok(Site {
+        overlap: MILLIMETRES * overlap,
+        distance: MILLIMETRES * (place - head),
+        past: least(&sheet, place, place + overlap).map(i32::from),
+        ahead: ahead.into(),
+    })
+}
+
+/// The last speed before the first that does not fit; none where the first of all does not.
+fn climb(speeds: RangeInclusive<u32>, fits: impl Fn(u32) -> Result<bool, u32>) -> Result<Option<u32>, u32> {
+    let mut last = None;
+    for v in speeds {
+        if !fits(v)? {
+            break;
+        }
+        last = Some(v);
+    }
+    Ok(last)
+}
+
+/// The ramp's speeds that the train can have.
+fn creeps(train: Train) -> RangeInclusive<u32> {
+    *SPEEDS.start()..=train.top_speed.min(*SPEEDS.end())
+}
+
+/// The ramp is consulted, and its refusal 10 raised, only where the overlap has a length.
+fn release_speed(train: Train, tm: u32, tr: u32, site: &Site) -> Result<u32, u32> {
+    let Some(gradient) = site.past else {
+        return Ok(0);
+    };
+    let fits = |v| Ok(ramp(train.braked_weight, gradient, v, tm, tr)?.distance <= site.overlap);
+    Ok(climb(creeps(train), fits)?.unwrap_or(0))
+}
+
+/// Document 01, "Approach": TM and TR in hundredths of a second, head in metres, or the refusal's number.
+///
+/// The P distances are the raised ones. They fit exactly where the exact ones do: the distance to the signal is a whole
+/// number of millimetres, and such a number is not below the raised one just when it is not below the exact one.
+/// Refusal 10 of the step model comes from the climb's first speed, V0, or not at all.
+pub fn approach(train: Train, tm: u32, tr: u32, sheet: &[u8], signal: u32, head: u32) -> Result<Answer, u32> {
+    let site = site(train, tm, tr, sheet, signal, head)?;
+    let release = release_speed(train, tm, tr, &site)?;
+    let fits = |v| Ok(step(train, v, release, site.ahead)?[Curve::P as usize] <= site.distance);
+    let (permitted, mark) = match climb(release..=train.top_speed, fits)? {
+        Some(last) => (last, Mark::Curve),
+        None => (release, Mark::Release),
+    };
+    Ok(Answer { release, permitted, mark, ceilings: ceilings(permitted)? })
+}
+
+/// The third demand's sentences on the motion past the signal.
+fn keeps_overlap(train: Train, tm: u32, tr: u32, site: &Site, release: u32) -> Result<(), Fault> {
+    let Some(gradient) = site.past else {
+        // Every motion leaves place 0, which is the overlap's end.
+        return if release == 0 { Ok(()) } else { Err(Fault::Beyond(1)) };
+    };
+    let fastest = *creeps(train).end();
+    if release > fastest {
+        return Err(Fault::TooFast);
+    }
+    let end = Fraction::from(site.overlap);
+    for v in 1..=release {
+        let (_, most) = greatest_place(train.braked_weight, gradient, v, tm, tr)?;
+        if in_millimetres(&most) > end {
+            return Err(Fault::Beyond(v));
+        }
+    }
+    if release < fastest {
+        let (reached, _) = greatest_place(train.braked_weight, gradient, release + 1, tm, tr)?;
+        if in_millimetres(&reached) + Fraction::from(ALLOWANCE) <= end {
+            return Err(Fault::Short);
+        }
+    }
+    Ok(())
+}
+
+/// The third demand's sentences on the way to the signal.
+fn keeps_distance(train: Train, site: &Site, answer: Answer) -> Result<(), Fault> {
+    let Answer { release, permitted, mark, .. } = answer;
+    let distance = Fraction::from(site.distance);
+    let fits = |v| Ok::<bool, Fault>(exact_p(train, v, release, site.ahead)? <= distance);
+    let (wanted, highest) = if fits(release)? { (Mark::Curve, train.top_speed) } else { (Mark::Release, release) };
+    if mark != wanted {
+        return Err(Fault::Mark);
+    }
+    if !(release..=highest).contains(&permitted) {
+        return Err(Fault::Permitted);
+    }
+    if mark == Mark::Release {
+        return Ok(());
+    }
+    for v in release..=permitted {
+        if !fits(v)? {
+            return Err(Fault::Unfit(v));
+        }
+    }
+    if permitted < highest && fits(permitted + 1)? {
+        return Err(Fault::Slow);
+    }
+    Ok(())
+}
+
+/// The desk's third demand of an answer to this query, from wherever it comes: no climb and no ramp answer is used, but
+/// the bounds on the greatest place and the exact P distances. Where a limit lies between two bounds, which are nearer
+/// to each other than a micrometre, the answer is turned down. The ceilings are the second demand's and not looked at.
+pub fn keeps_demand(
+    train: Train,
+    tm: u32,
+    tr: u32,
+    sheet: &[u8],
+    signal: u32,
+    head: u32,
+    answer: Answer,
+) -> Result<(), Fault> {
+    let site = site(train, tm, tr, sheet, signal, head)?;
+    keeps_overlap(train, tm, tr, &site, answer.release)?;
+    keeps_distance(train, &site, answer)
+}
+
+impl fmt::Display for Mark {
+    fn fmt(&self, out: &mut fmt::Formatter) -> fmt::Result {
+        out.write_str(match self {
+            Mark::Curve => "curve",
+            Mark::Release => "release",
+        })
+    }
+}
+
+/// Document 01, "Figures to hold": the train, TM, TR and head of the printing program.
+const PRINTED_TRAIN: Train =
+    Train { freight: false, electropneumatic: true, braked_weight: 100, length: 200, top_speed: 100 };
+const PRINTED_TM: u32 = 200;
+const PRINTED_TR: u32 = 400;
+const PRINTED_HEAD: u32 = 0;
+
+fn printed_line(sheet: &[u8], number: u32) -> String {
+    match approach(PRINTED_TRAIN, PRINTED_TM, PRINTED_TR, sheet, number, PRINTED_HEAD) {
+        Ok(Answer { release, permitted, mark, ceilings: [w, sbi, ebi] }) => {
+            format!("{number} {release} {permitted} {mark} {w} {sbi} {ebi}\n")
+        }
+        Err(refusal) => format!("{number} refused {refusal}\n"),
+    }
+}
+
+/// What the printing program prints for these bytes.
+pub fn printed(sheet: &[u8]) -> String {
+    let Some(fields) = sheet::read(sheet) else {
+        return "refused 7\n".to_owned();
+    };
+    (0..fields.signals.len()).map(|number| printed_line(sheet, number as u32)).collect()
+}
