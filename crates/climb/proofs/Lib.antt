@@ -1,3 +1,3 @@
-mod Climbing
-mod Past
-mod Fit
+pub mod Climbing
+pub mod Past
+pub mod Fit

@@ -7,6 +7,7 @@ pub mod refusal;
 pub mod slope;
 
 // A speed in km/h.
+#[repr(C)]
 pub struct Kmh(pub u32);
 
 // A place or a length in metres.

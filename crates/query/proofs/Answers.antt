@@ -1,0 +1,164 @@
+-- What the code finds out, refusal by refusal, makes the answer of the definition; an accepted one keeps the third demand.
+use mathlib.Core.Path.{_≡_, refl, sym, _∙_}
+use mathlib.Core.Bool.{Bool, true, false, not, cond}
+use mathlib.Core.List.{List, _++_}
+use Prim.Native.Nat.{ℕ, _<_}
+use native.Mathlib.Omega.{arith}
+use native.Mathlib.Nat.{le-refl}
+use borrow.Author.Tests.{le-ltb, leb-true, ltb-false, ne-eqb}
+use lib.Dec.{lit<}
+use Rattle.train.specs.declared.Kmh.{Kmh}
+use Rattle.train.specs.declared.Metre.{Metre}
+use Rattle.train.specs.declared.Train.{Train}
+use Rattle.train.specs.declared.Gradient.{Gradient}
+use Rattle.train.specs.declared.Coefficients.{Coefficients}
+use Rattle.train.specs.Units.{kmh}
+use Rattle.train.specs.Coefficients.{Within}
+use Rattle.train.specs.Refusal.{firstOf, trainRefusals}
+use Rattle.train.proofs.Refusals.{Rising, rising-before, train-rising, first-after, first-before, none-holds}
+use Rattle.braking.specs.Braking.{strong}
+use Rattle.braking.proofs.Exact.{strong-is}
+use Rattle.braking.proofs.Coursed.{course}
+use Rattle.ceilings.specs.Ceilings.{limitsOf}
+use Rattle.ceilings.proofs.Agrees.{as-printed}
+use Rattle.ramp.specs.Answer.{timeRefusals}
+use Rattle.way.specs.declared.Way.{Way}
+use Rattle.way.specs.declared.Found.{Found}
+use Rattle.way.specs.declared.Found.the-variants.{Refused, Ready}
+use Rattle.way.specs.Way.{wayRefusals}
+use Rattle.way.specs.Find.{Finds}
+use Rattle.climb.specs.declared.permitted.Permitted.the-variants.{Weak, Release, Curve}
+use Rattle.climb.specs.Release.{releaseOf, weakPast}
+use Rattle.climb.specs.Permitted.{onCurve, onRelease, Steady, permittedOf, markOf, Permits}
+use Rattle.query.specs.declared.Answer.{Answer}
+use Rattle.query.specs.Demand.{pastAt, Demand}
+use Rattle.query.specs.Answer.{refused, answered, release, brakeRefusals, accepted, inputs, wayTo, queryRefusals, answerOf, QueryAnswers}
+use Rattle.query.specs.Begin.{Fit, FitAhead, Starts, answerAt, answerOn}
+use Rattle.query.proofs.Creep.{places, low, is-safe, is-tight}
+use Rattle.query.proofs.Marks.{distances, is-marked}
+
+-- the refusals go by rising numbers, so the lowest that applies is the answer (the train's `lowest` and `applies`)
+pub query-rising : (k : Coefficients) (t : Train) (tm tr : ℕ) (s : List ℕ) (signal head : ℕ) → Rising 1 (queryRefusals k t tm tr s signal head)
+query-rising k t tm tr s signal head = (tt, (tt, (tt, (tt, (tt, (tt, (tt, (tt, (tt, (tt, (tt, (tt, (tt, (tt, tt))))))))))))))
+
+pub times-rising : (tm tr : ℕ) → Rising 1 (timeRefusals tm tr)
+times-rising tm tr = (tt, (tt, (tt, tt)))
+
+module _ (k : Coefficients) (t : Train) (tm tr : ℕ) (w : Way) (f : Fit t tm tr w) (within : Within k) where
+  -- what the climb to the permitted speed asks for
+  pub fit-ahead : FitAhead t (w .ahead) (release k t tm tr w)
+  fit-ahead =
+      let n = none-holds 0 (trainRefusals t) (train-rising t) (f .train) in
+      let l = low t tm tr w f k within in
+      record {
+        weight = ltb-false _ _ (n .1 .0);
+        length = ltb-false _ _ (n .1 .1 .1 .0);
+        gradient = f .ahead;
+        speeds = omega arith;
+        top = ltb-false _ _ (n .1 .1 .1 .1 .1 .0);
+      }
+
+  module _ (steady : Steady k) (past : weakPast k (pastAt t tm tr w 1) (w .overlap) ≡ false) (ahead : strong k t (w .ahead) (release k t tm tr w) (release k t tm tr w) ≡ true) where
+    abbrev R : ℕ
+    R = releaseOf k (pastAt t tm tr w 1) (w .overlap) (t .top)
+
+    -- the third demand
+    pub kept : Demand k t tm tr w R (permittedOf k t (w .ahead) (kmh R) (w .distance)) (markOf k t (w .ahead) (kmh R) (w .distance))
+    kept =
+        let a = fit-ahead in
+        let (c, is) = course k t (w .ahead) within (a .weight) (a .length) (a .gradient) in
+        let e = leb-true _ _ (strong-is k t (w .ahead) c is (kmh R) (kmh R) (le-refl R) ∙ ahead) in
+        record {
+          numbers = record { places = places t tm tr w f k; distances = distances k within steady t tm tr w R c is e (a .speeds) };
+          safe = is-safe t tm tr w f k within past;
+          tight = is-tight t tm tr w f k within past;
+          marked = is-marked k within steady t tm tr w R c is e (a .speeds);
+        }
+
+-- the steps of the code
+module _ (k : Coefficients) (t : Train) (g : Gradient) (d : Metre) (v0 : Kmh) where
+  pub too-weak : Permits k t g v0 d Weak → refused 10 ≡ answerAt k t g d v0
+  unfolding answerAt
+  too-weak e = rw e refl
+
+  pub by-release : Permits k t g v0 d Release → answered v0 v0 onRelease ≡ answerAt k t g d v0
+  unfolding answerAt permittedOf markOf
+  by-release (e, f) = rw (e, f) refl
+
+  pub by-curve : (v : Kmh) → Permits k t g v0 d (Curve v) → answered v0 v onCurve ≡ answerAt k t g d v0
+  unfolding answerAt permittedOf markOf
+  by-curve v (e, f, h) = rw (e, f, ← h) refl
+
+module _ (k : Coefficients) (t : Train) (tm tr : ℕ) (w : Way) where
+  pub too-weak-past : weakPast k (pastAt t tm tr w 1) (w .overlap) ≡ true → refused 10 ≡ answerOn k t tm tr w
+  unfolding answerOn
+  too-weak-past e = rw e refl
+
+  pub with-release : (v : Kmh) → (weakPast k (pastAt t tm tr w 1) (w .overlap) ≡ false) × (v .0 ≡ releaseOf k (pastAt t tm tr w 1) (w .overlap) (t .top)) → answerAt k t (w .ahead) (w .distance) v ≡ answerOn k t tm tr w
+  unfolding answerOn
+  with-release v (e, h) = rw (e, ← h) refl
+
+module _ (t : Train) (tm tr : ℕ) (s : List ℕ) (signal head : ℕ) where
+  pub by-train : (n : ℕ) → 0 < n → n ≡ firstOf (trainRefusals t) → firstOf (inputs t tm tr s signal head) ≡ n
+  by-train n l e = rw e (first-before (trainRefusals t) (timeRefusals tm tr ++ wayRefusals s signal head) (λ z. omega arith))
+
+  module _ (z : firstOf (trainRefusals t) ≡ 0) where
+    later : firstOf (inputs t tm tr s signal head) ≡ firstOf (timeRefusals tm tr ++ wayRefusals s signal head)
+    later = first-after 0 (trainRefusals t) (timeRefusals tm tr ++ wayRefusals s signal head) (train-rising t) z
+
+    pub by-times : (n : ℕ) → 0 < n → n ≡ firstOf (timeRefusals tm tr) → firstOf (inputs t tm tr s signal head) ≡ n
+    by-times n l e = later ∙ first-before (timeRefusals tm tr) (wayRefusals s signal head) (λ z. omega arith) ∙ sym e
+
+    module _ (y : firstOf (timeRefusals tm tr) ≡ 0) where
+      by-way : firstOf (inputs t tm tr s signal head) ≡ firstOf (wayRefusals s signal head)
+      by-way = later ∙ first-after 0 (timeRefusals tm tr) (wayRefusals s signal head) (times-rising tm tr) y
+
+      pub started : (r : Found) → Finds s signal head r → Starts t tm tr s signal head r
+      started (Refused n) (l, e) = (l, by-way ∙ e)
+      started (Ready w) i = record { accepted = by-way ∙ i .accepted; way = i .way; fit = record { train = z; times = y; ahead = i .ahead; past = i .past } }
+
+module _ (k : Coefficients) (t : Train) (tm tr : ℕ) (s : List ℕ) (signal head : ℕ) where
+  abbrev Answers : Answer → Type 0
+  Answers = QueryAnswers k t tm tr s signal head
+
+  pub inputs-rising : Rising 1 (inputs t tm tr s signal head)
+  inputs-rising = rising-before 1 (inputs t tm tr s signal head) (brakeRefusals k t tm tr (wayTo s signal head)) (query-rising k t tm tr s signal head)
+
+  refused-by : (n : ℕ) → 0 < n → firstOf (queryRefusals k t tm tr s signal head) ≡ n → Answers (refused n)
+  unfolding answerOf
+  refused-by n l e =
+      record { answer = rw (e, ne-eqb n 0 (λ i. omega arith)); demand = λ z. absurd (let i : n ≡ 0 = z in omega arith); ceilings = λ z. absurd (let i : n ≡ 0 = z in omega arith) }
+
+  pub by-inputs : (n : ℕ) → 0 < n → firstOf (inputs t tm tr s signal head) ≡ n → Answers (refused n)
+  by-inputs n l e = refused-by n l (first-before (inputs t tm tr s signal head) (brakeRefusals k t tm tr (wayTo s signal head)) (λ i. omega arith) ∙ e)
+
+  module _ (z : firstOf (inputs t tm tr s signal head) ≡ 0) (f : Fit t tm tr (wayTo s signal head)) (within : Within k) (steady : Steady k) where
+    abbrev w : Way
+    w = wayTo s signal head
+
+    abbrev weak : Bool
+    weak = weakPast k (pastAt t tm tr w 1) (w .overlap)
+
+    abbrev enough : Bool
+    enough = strong k t (w .ahead) (release k t tm tr w) (release k t tm tr w)
+
+    decides : firstOf (queryRefusals k t tm tr s signal head) ≡ cond weak 10 (cond (not enough) 10 0)
+    decides = first-after 0 (inputs t tm tr s signal head) (brakeRefusals k t tm tr w) inputs-rising z
+
+    given : weak ≡ false → enough ≡ true → Answers (accepted k t tm tr w)
+    unfolding answerOf limitsOf
+    given a b =
+        let d = kept k t tm tr w f within steady a b in
+        let h = fit-ahead k t tm tr w f within .top in
+        let i = d .marked .to in
+        let P = permittedOf k t (w .ahead) (release k t tm tr w) (w .distance) in
+        record { answer = rw (decides, a, b) refl; demand = λ y. d; ceilings = λ y. rw (le-ltb 330 P (omega arith)) (as-printed (kmh P)) }
+
+    pub on-way : Answers (answerOn k t tm tr w)
+    unfolding answerOn answerAt
+    on-way = go weak enough refl refl
+      where
+        go : (a b : Bool) → weak ≡ a → enough ≡ b → Answers (cond a (refused 10) (cond b (accepted k t tm tr w) (refused 10)))
+        go true b e g = refused-by 10 (lit< tt) (decides ∙ rw e refl)
+        go false true e g = given e g
+        go false false e g = refused-by 10 (lit< tt) (decides ∙ rw (e, g) refl)

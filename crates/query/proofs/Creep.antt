@@ -1,0 +1,98 @@
+-- The release speed is safe at every moment, and tight at the next km/h.
+use mathlib.Core.Path.{_≡_, ap, _∙_}
+use mathlib.Core.Bool.{false}
+use mathlib.Core.List.{_++_}
+use mathlib.Core.Logic.{⊎-elim}
+use Prim.Native.Nat.{ℕ, _+_, _*_, _≤_, _<_, min}
+use native.Mathlib.Omega.{arith}
+use native.Mathlib.Numerals.{add-one}
+use borrow.Author.Tests.{le-ltb, leb-true, leb-false}
+use lib.Dec.{lit<}
+use Rattle.exact.specs.Fraction.{whole, _over_, _-q_, _≤q_, _<q_}
+use Rattle.exact.proofs.Order.{≤q-trans, ≤q-<q-trans}
+use Rattle.lists.proofs.Split.{below}
+use Rattle.train.specs.declared.Train.{Train}
+use Rattle.train.specs.declared.Coefficients.{Coefficients}
+use Rattle.train.specs.Units.{kmh}
+use Rattle.train.specs.Coefficients.{Within}
+use Rattle.train.specs.Refusal.{firstOf, weightRefusals, lengthRefusals, gradientRefusals}
+use Rattle.train.proofs.Refusals.{weight-rising, first-after, none-before}
+use Rattle.motion.specs.declared.Overrun.{Overrun}
+use Rattle.motion.specs.Motion.{placeAt}
+use Rattle.motion.proofs.Planned.{planOf, planOf-is}
+use Rattle.motion.proofs.Phases.{place-is}
+use Rattle.ramp.specs.Answer as ramp
+use Rattle.ramp.specs.Answer.{leeway, Promise, distance, moment, speedRefusals, timeRefusals}
+use Rattle.ramp.proofs.Answers.{inputs-fit}
+use Rattle.ramp.proofs.Always.{always}
+use Rattle.way.specs.declared.Way.{Way}
+use Rattle.climb.specs.Release.{stopsWithin, releaseOf, weakPast}
+use Rattle.climb.proofs.Climbing.{Highest, highest}
+use Rattle.climb.proofs.Past.{any-speed, no-overlap, release-is, accepted-past}
+use Rattle.query.specs.Demand.{pastAt, place, Safe, Tight}
+use Rattle.query.specs.Begin.{Fit}
+
+-- what the ramp promises, for an overlap: an answer within it keeps the place within it at every moment,
+-- and one beyond it is a place beyond it, but for the leeway
+module _ (k : Coefficients) (o : Overrun) (mm ms : ℕ) (h : Promise k o leeway mm ms) (overlap : ℕ) where
+  inside : mm ≤ 1000 * overlap → (p q : ℕ) → 0 < q → placeAt k o (p over q) ≤q whole overlap
+  inside l p q z = ≤q-trans (placeAt k o (p over q)) (mm over 1000) (whole overlap) (lit< tt) (h .never p q z) (omega arith)
+
+  outside : 1000 * overlap < mm → whole overlap -q (leeway over 1000) <q placeAt k o (ms over 1000)
+  outside l =
+      ≤q-<q-trans (whole overlap -q (leeway over 1000)) ((mm over 1000) -q (leeway over 1000)) (placeAt k o (ms over 1000)) (lit< tt) (lit< tt) (omega arith) (h .near)
+
+module _ (t : Train) (tm tr : ℕ) (w : Way) (f : Fit t tm tr w) where
+  abbrev past : ℕ → Overrun
+  past = pastAt t tm tr w
+
+  -- but for its brake, the ramp accepts the motion past the signal
+  pub inputs-past : firstOf (ramp.inputs (past 1)) ≡ 0
+  inputs-past =
+      first-after 0 (weightRefusals (t .weight)) (speedRefusals (kmh 1) ++ (gradientRefusals (w .past) ++ timeRefusals tm tr)) (weight-rising (t .weight)) (none-before (weightRefusals (t .weight)) (lengthRefusals t) (f .train))
+      ∙ rw (le-ltb 35 (w .past .rise) (f .past .rise), le-ltb 35 (w .past .fall) (f .past .fall)) (f .times)
+
+  -- every place is a number
+  pub places : (k : Coefficients) (v p q : ℕ) → 0 < q → 0 < place k t tm tr w v p q .over
+  places k v p q l =
+      let some = inputs-fit (past 1) inputs-past .some in
+      place-is k (past v) (planOf k (past v)) (planOf-is k (past v) some) p q l (omega arith) .left
+
+  module _ (k : Coefficients) (within : Within k) where
+    abbrev R : ℕ
+    R = releaseOf k (past 1) (w .overlap) (t .top)
+
+    abbrev least : ℕ
+    least = min 100 (t .top .0)
+
+    climbed : 0 < w .overlap .0 → Highest (stopsWithin k (past 1) (w .overlap)) 0 least R
+    climbed h = rw (← release-is k (past 1) (w .overlap) h (t .top)) (highest (stopsWithin k (past 1) (w .overlap)) 0 least)
+
+    -- at most the lower of 100 and the top speed
+    pub low : R ≤ least
+    low =
+        ⊎-elim (λ h. omega (arith, climbed h .to)) (λ h. let e = no-overlap k (past 1) (w .overlap) (t .top) (omega arith) .1 in omega arith)
+        (below 0 (w .overlap .0))
+
+    some-overlap : 1 ≤ R → 0 < w .overlap .0
+    some-overlap l =
+        ⊎-elim (λ h. h) (λ h. absurd (let e = no-overlap k (past 1) (w .overlap) (t .top) (omega arith) .1 in omega arith)) (below 0 (w .overlap .0))
+
+    module _ (strong : weakPast k (past 1) (w .overlap) ≡ false) where
+      promise : 0 < w .overlap .0 → (v : ℕ) → 1 ≤ v → v ≤ 100 → Promise k (past v) leeway (distance k (past v)) (moment k (past v))
+      promise h v a b = always k (past v) (any-speed k (past 1) v a b ∙ accepted-past k (past 1) (w .overlap) h inputs-past strong) within
+
+      pub is-safe : Safe k t tm tr w R
+      is-safe = record {
+        safe = λ v p q a b l.
+            let h = some-overlap (omega arith) in
+            let s = leb-true _ _ (climbed h .each v a b) in
+            inside k (past v) _ _ (promise h v a (omega (arith, low))) (w .overlap .0) s p q l;
+      }
+
+      pub is-tight : Tight k t tm tr w R
+      is-tight = record {
+        tight = λ h a b.
+            let s = leb-false _ _ (ap (stopsWithin k (past 1) (w .overlap)) (add-one R) ∙ climbed h .next (omega arith)) in
+            (moment k (past (R + 1)), (1000, (lit< tt, outside k (past (R + 1)) _ _ (promise h (R + 1) (omega arith) a) (w .overlap .0) s)));
+      }

@@ -1,0 +1,4 @@
+mod Creep
+mod Marks
+mod Answers
+pub mod Agreement

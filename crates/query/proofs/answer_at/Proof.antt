@@ -1,0 +1,67 @@
+-- `answer_at`: what the climb to the permitted speed found makes the answer.
+use borrow.Author.Needs.{needs}
+use mathlib.Core.Path.{_∙_}
+use Rattle.climb.specs.declared.permitted.Permitted.the-variants.{Weak, Release, Curve}
+use Rattle.climb.specs.Permitted.{Permits}
+use Rattle.query.proofs.Answers.{too-weak, by-release, by-curve}
+use Rattle.query.proofs.answer_at.Statement.{statement}
+use Rattle.query.proofs.answer_at.Tie as tie
+
+speed-requires : tie.Need-speed-requires
+speed-requires c κs = let f = c .pre .2 in (c .pre .0, c .pre .1, f .weight, f .length, f .gradient, f .speeds, f .top)
+
+enum-told : tie.Need-enum-told
+enum-told c = search needs
+
+refused-with-requires : tie.Need-refused-with-requires
+refused-with-requires c κs = search needs
+
+enum-told-2 : tie.Need-enum-told-2
+enum-told-2 c = search needs
+
+given-requires : tie.Need-given-requires
+given-requires c κs = search needs
+
+enum-known-permitted : tie.Need-enum-known-permitted
+enum-known-permitted c = search needs
+
+given-requires-2 : tie.Need-given-requires-2
+given-requires-2 c κs = search needs
+
+returns : tie.Need-returns
+returns c =
+    let s = c .before .before .before in
+    let a = s .before .args in
+    let h : Permits (a .k) (a .train) (a .ahead) (a .release) (a .distance) Weak = rw (c .before .enum-told .given .1) at (s .speed .ensures) in
+    c .refused-with .ensures ∙ too-weak (a .k) (a .train) (a .ahead) (a .distance) (a .release) h
+
+returns-2 : tie.Need-returns-2
+returns-2 c =
+    let s = c .before .before .before in
+    let a = s .before .args in
+    let h : Permits (a .k) (a .train) (a .ahead) (a .release) (a .distance) Release = rw (c .before .enum-told2 .given .1) at (s .speed .ensures) in
+    c .given .ensures ∙ by-release (a .k) (a .train) (a .ahead) (a .distance) (a .release) h
+
+returns-3 : tie.Need-returns-3
+returns-3 c =
+    let p = c .before .before in
+    let s = p .before .before in
+    let a = s .before .args in
+    let v = p .permitted .given .0 .0 in
+    let h : Permits (a .k) (a .train) (a .ahead) (a .release) (a .distance) (Curve v) = rw (p .permitted .given .1) at (s .speed .ensures) in
+    c .given2 .ensures ∙ by-curve (a .k) (a .train) (a .ahead) (a .distance) (a .release) v h
+
+pub answer-at-spec : {M : Type 1} → statement M
+answer-at-spec =
+    tie.close
+    (tie.spec
+    speed-requires
+    enum-told
+    refused-with-requires
+    enum-told-2
+    given-requires
+    enum-known-permitted
+    given-requires-2
+    returns
+    returns-2
+    returns-3)

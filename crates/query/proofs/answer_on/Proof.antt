@@ -1,0 +1,58 @@
+-- `answer_on`: what the climb to the release speed found makes the answer.
+use borrow.Author.Needs.{needs}
+use mathlib.Core.Path.{_∙_}
+use Rattle.climb.specs.declared.release.Release.the-variants.{Weak, Speed}
+use Rattle.climb.specs.Release.{Releases}
+use Rattle.query.specs.Demand.{pastAt}
+use Rattle.query.proofs.Creep.{inputs-past}
+use Rattle.query.proofs.Answers.{fit-ahead, too-weak-past, with-release}
+use Rattle.query.proofs.answer_on.Statement.{statement}
+use Rattle.query.proofs.answer_on.Tie as tie
+
+-- the release speed that was found
+found : (c : tie.After-known-told) → let r = c .before in let s = r .before .before in let a = s .before .before .before .before .before .before .args in
+    Releases (a .k) (pastAt (a .train) (a .tm) (a .tr) (a .w) 1) (a .w .overlap) (a .train .top) (Speed (r .release .given .0 .0))
+found c = rw (c .before .release .given .1) at (c .before .before .before .speed .ensures)
+
+speed-requires : tie.Need-speed-requires
+speed-requires c κs = let s = c .before .before .before .before .before in let a = s .args in (s .pre .0, inputs-past (a .train) (a .tm) (a .tr) (a .w) (s .pre .2))
+
+enum-told : tie.Need-enum-told
+enum-told c = search needs
+
+refused-with-requires : tie.Need-refused-with-requires
+refused-with-requires c κs = search needs
+
+enum-known-release : tie.Need-enum-known-release
+enum-known-release c = search needs
+
+answer-at-requires : tie.Need-answer-at-requires
+answer-at-requires c κs =
+    let s = c .before .before .before .before .before .before .before .before .before in
+    let a = s .args in
+    (s .pre .0, s .pre .1, rw (found c .1) (fit-ahead (a .k) (a .train) (a .tm) (a .tr) (a .w) (s .pre .2) (s .pre .0)))
+
+returns : tie.Need-returns
+returns c =
+    let s = c .before .before .before in
+    let a = s .before .before .before .before .before .before .args in
+    let h : Releases (a .k) (pastAt (a .train) (a .tm) (a .tr) (a .w) 1) (a .w .overlap) (a .train .top) Weak = rw (c .before .enum-told .given .1) at (s .speed .ensures) in
+    c .refused-with .ensures ∙ too-weak-past (a .k) (a .train) (a .tm) (a .tr) (a .w) h
+
+returns-2 : tie.Need-returns-2
+returns-2 c =
+    let f = c .before in
+    let a = f .before .before .before .before .before .before .before .before .before .args in
+    c .answer-at .ensures ∙ with-release (a .k) (a .train) (a .tm) (a .tr) (a .w) _ (found f)
+
+pub answer-on-spec : {M : Type 1} → statement M
+answer-on-spec =
+    tie.close
+    (tie.spec
+    speed-requires
+    enum-told
+    refused-with-requires
+    enum-known-release
+    answer-at-requires
+    returns
+    returns-2)

@@ -1,0 +1,63 @@
+-- Document 01, "Approach" and "What is turned away": what the query answers, and what it promises.
+use mathlib.Core.Path.{_≡_}
+use mathlib.Core.Bool.{not, cond}
+use mathlib.Core.List.{List, [], _∷_, _++_}
+use Prim.Native.Nat.{ℕ}
+use lib.Dec.{eqb}
+use Rattle.train.specs.declared.Kmh.{Kmh}
+use Rattle.train.specs.declared.Train.{Train}
+use Rattle.train.specs.declared.Coefficients.{Coefficients}
+use Rattle.train.specs.Units.{kmh}
+use Rattle.train.specs.Refusal.{Refusal, _gives_, firstOf, trainRefusals}
+use Rattle.braking.specs.Braking.{strong}
+use Rattle.ceilings.specs.Ceilings.{limitsOf}
+use Rattle.ceilings.specs.Paper.{AsPrinted}
+use Rattle.ramp.specs.Answer.{timeRefusals}
+use Rattle.sheet.specs.Sheet.{lineOf}
+use Rattle.way.specs.declared.Way.{Way}
+use Rattle.way.specs.Way.{wayRefusals, wayOf}
+use Rattle.climb.specs.Release.{releaseOf, weakPast}
+use Rattle.climb.specs.Permitted.{permittedOf, markOf}
+use Rattle.query.specs.declared.Answer.{Answer}
+use Rattle.query.specs.Demand.{pastAt, Demand}
+
+-- a refusal, with zeros
+abbrev pub refused : ℕ → Answer
+refused n = record { refusal = n; release = kmh 0; permitted = kmh 0; mark = 0; w = record { 0 = 0 }; sbi = record { 0 = 0 }; ebi = record { 0 = 0 } }
+
+-- the ceilings of the permitted speed follow
+abbrev pub answered : Kmh → Kmh → ℕ → Answer
+answered release permitted mark =
+    let l = limitsOf permitted in record { refusal = 0; release = release; permitted = permitted; mark = mark; w = l .w; sbi = l .sbi; ebi = l .ebi }
+
+module _ (k : Coefficients) (t : Train) (tm tr : ℕ) (w : Way) where
+  abbrev pub release : Kmh
+  release = kmh (releaseOf k (pastAt t tm tr w 1) (w .overlap) (t .top))
+
+  -- refusal 10: in the ramp where it is consulted, and in the step model at V0, the release speed
+  abbrev pub brakeRefusals : List Refusal
+  brakeRefusals = weakPast k (pastAt t tm tr w 1) (w .overlap) gives 10 ∷ not (strong k t (w .ahead) release release) gives 10 ∷ []
+
+  abbrev pub accepted : Answer
+  accepted = answered release (kmh (permittedOf k t (w .ahead) release (w .distance))) (markOf k t (w .ahead) release (w .distance))
+
+-- 1, 2, 3, 6, 7, 8, 9
+abbrev pub inputs : Train → ℕ → ℕ → List ℕ → ℕ → ℕ → List Refusal
+inputs t tm tr s signal head = trainRefusals t ++ (timeRefusals tm tr ++ wayRefusals s signal head)
+
+-- what the sheet says of the way
+abbrev pub wayTo : List ℕ → ℕ → ℕ → Way
+wayTo s signal head = wayOf (lineOf s) signal head
+
+module _ (k : Coefficients) (t : Train) (tm tr : ℕ) (s : List ℕ) (signal head : ℕ) where
+  abbrev pub queryRefusals : List Refusal
+  queryRefusals = inputs t tm tr s signal head ++ brakeRefusals k t tm tr (wayTo s signal head)
+
+  unfoldable pub answerOf : Answer
+  answerOf = cond (eqb (firstOf queryRefusals) 0) (accepted k t tm tr (wayTo s signal head)) (refused (firstOf queryRefusals))
+
+  -- what the query promises: the answer by definition, the third demand of every accepted one, and the paper's ceilings
+  pub record QueryAnswers (r : Answer) : Type 0 where
+    pub answer : r ≡ answerOf
+    pub demand : r .refusal ≡ 0 → Demand k t tm tr (wayTo s signal head) (r .release .0) (r .permitted .0) (r .mark)
+    pub ceilings : r .refusal ≡ 0 → AsPrinted (r .permitted) (record { refusal = 0; w = r .w; sbi = r .sbi; ebi = r .ebi })

@@ -1,0 +1,55 @@
+-- What the code knows before it climbs, and what it answers step by step.
+use mathlib.Core.Path.{_≡_}
+use mathlib.Core.Bool.{cond}
+use mathlib.Core.List.{List}
+use Prim.Native.Nat.{ℕ, _≤_, _<_}
+use Rattle.train.specs.declared.Kmh.{Kmh}
+use Rattle.train.specs.declared.Metre.{Metre}
+use Rattle.train.specs.declared.Train.{Train}
+use Rattle.train.specs.declared.Gradient.{Gradient}
+use Rattle.train.specs.declared.Coefficients.{Coefficients}
+use Rattle.train.specs.Units.{kmh}
+use Rattle.train.specs.Gradient.{Moderate}
+use Rattle.train.specs.Refusal.{firstOf, trainRefusals}
+use Rattle.braking.specs.Braking.{strong}
+use Rattle.ramp.specs.Answer.{timeRefusals}
+use Rattle.way.specs.declared.Way.{Way}
+use Rattle.way.specs.declared.Found.{Found}
+use Rattle.way.specs.declared.Found.the-variants.{Refused, Ready}
+use Rattle.climb.specs.Release.{weakPast}
+use Rattle.climb.specs.Permitted.{permittedOf, markOf}
+use Rattle.query.specs.declared.Answer.{Answer}
+use Rattle.query.specs.Demand.{pastAt}
+use Rattle.query.specs.Answer.{refused, answered, release, inputs, wayTo}
+
+-- the train, the times and the way's gradients are accepted
+pub record Fit (t : Train) (tm tr : ℕ) (w : Way) : Type 0 where
+  pub train : firstOf (trainRefusals t) ≡ 0
+  pub times : firstOf (timeRefusals tm tr) ≡ 0
+  pub ahead : Moderate (w .ahead)
+  pub past : Moderate (w .past)
+
+pub record FitAhead (t : Train) (g : Gradient) (release : Kmh) : Type 0 where
+  pub weight : t .weight ≤ 160
+  pub length : t .length .0 ≤ 1000
+  pub gradient : Moderate g
+  pub speeds : release .0 ≤ t .top .0
+  pub top : t .top .0 ≤ 330
+
+module _ (t : Train) (tm tr : ℕ) (s : List ℕ) (signal head : ℕ) where
+  pub record IsReady (w : Way) : Type 0 where
+    pub accepted : firstOf (inputs t tm tr s signal head) ≡ 0
+    pub way : w ≡ wayTo s signal head
+    pub fit : Fit t tm tr w
+
+  abbrev pub Starts : Found → Type 0
+  Starts (Refused n) = (0 < n) × (firstOf (inputs t tm tr s signal head) ≡ n)
+  Starts (Ready w) = IsReady w
+
+-- the answer with a release speed, and on a way
+module _ (k : Coefficients) (t : Train) where
+  unfoldable pub answerAt : Gradient → Metre → Kmh → Answer
+  answerAt g d v0 = cond (strong k t g v0 v0) (answered v0 (kmh (permittedOf k t g v0 d)) (markOf k t g v0 d)) (refused 10)
+
+  unfoldable pub answerOn : ℕ → ℕ → Way → Answer
+  answerOn tm tr w = cond (weakPast k (pastAt t tm tr w 1) (w .overlap)) (refused 10) (answerAt (w .ahead) (w .distance) (release k t tm tr w))

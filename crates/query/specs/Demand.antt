@@ -1,0 +1,66 @@
+-- The desk's third demand, of an answer to an accepted query; document 01, "Approach".
+use mathlib.Core.Path.{_≡_}
+use mathlib.Core.Logic.{_⊎_, _↔_}
+use Prim.Native.Nat.{ℕ, _+_, _≤_, _<_}
+use Rattle.exact.specs.Fraction.{Fraction, whole, _over_, _-q_, _≤q_, _<q_}
+use Rattle.train.specs.declared.Train.{Train}
+use Rattle.train.specs.declared.Coefficients.{Coefficients}
+use Rattle.train.specs.Units.{kmh}
+use Rattle.motion.specs.declared.Overrun.{Overrun}
+use Rattle.motion.specs.Motion.{placeAt}
+use Rattle.ramp.specs.Answer.{overrun, leeway}
+use Rattle.curve.specs.Step.{P}
+use Rattle.way.specs.declared.Way.{Way}
+use Rattle.climb.specs.Permitted.{onCurve, onRelease}
+
+-- the motion past the signal at a whole speed: the ramp's, with the train, TM and TR, the gradient of the overlap and place 0 at the signal
+abbrev pub pastAt : Train → ℕ → ℕ → Way → ℕ → Overrun
+pastAt t tm tr w v = overrun (t .weight) (w .past) (kmh v) tm tr
+
+module _ (k : Coefficients) (t : Train) (tm tr : ℕ) (w : Way) where
+  -- in metres: the place past the signal, p / q seconds after it; the overlap's end; the distance to the signal
+  abbrev pub place : ℕ → ℕ → ℕ → Fraction
+  place v p q = placeAt k (pastAt t tm tr w v) (p over q)
+
+  abbrev pub end : Fraction
+  end = whole (w .overlap .0)
+
+  abbrev pub toSignal : Fraction
+  toSignal = whole (w .distance .0)
+
+  module _ (release : ℕ) where
+    -- a speed's exact P distance, in metres, with V0 the release speed and the gradient ahead
+    abbrev pub exactP : ℕ → Fraction
+    exactP v = P k t (w .ahead) (kmh v) (kmh release)
+
+    -- every place and every P that is spoken of is a number
+    pub record Numbers : Type 0 where
+      pub places : (v p q : ℕ) → 0 < q → 0 < place v p q .over
+      pub distances : (v : ℕ) → release ≤ v → 0 < exactP v .over
+
+    -- at every whole speed from 1 km/h to the release speed, whatever the moment, the train is not beyond the overlap's end
+    pub record Safe : Type 0 where
+      pub safe : (v p q : ℕ) → 1 ≤ v → v ≤ release → 0 < q → place v p q ≤q end
+
+    -- one km/h more, unless over 100, over the top speed or with an overlap of no length:
+    -- some moment finds it less than 5 mm short of that end, or past it
+    pub record Tight : Type 0 where
+      pub tight : 0 < w .overlap .0 → release + 1 ≤ 100 → release + 1 ≤ t .top .0 → (p : ℕ) × ((q : ℕ) × ((0 < q) × (end -q (leeway over 1000) <q place (release + 1) p q)))
+
+    -- marked "release" exactly when the release speed's own P is over the distance; the permitted speed is then the release speed.
+    -- Otherwise marked "curve": of the speeds from the release speed to the top speed, the permitted speed is the highest up to
+    -- which each has its P within the distance.
+    pub record Marked (permitted mark : ℕ) : Type 0 where
+      pub either : (mark ≡ onCurve) ⊎ (mark ≡ onRelease)
+      pub exactly : (mark ≡ onRelease) ↔ (toSignal <q exactP release)
+      pub held : mark ≡ onRelease → permitted ≡ release
+      pub from : release ≤ permitted
+      pub to : permitted ≤ t .top .0
+      pub each : mark ≡ onCurve → (v : ℕ) → release ≤ v → v ≤ permitted → exactP v ≤q toSignal
+      pub next : mark ≡ onCurve → permitted < t .top .0 → toSignal <q exactP (permitted + 1)
+
+    pub record Demand (permitted mark : ℕ) : Type 0 where
+      pub numbers : Numbers
+      pub safe : Safe
+      pub tight : Tight
+      pub marked : Marked permitted mark

@@ -1,0 +1,133 @@
+// The approach query: how fast a train may come up to a closed signal, and how fast it may creep past. Document 01, "Approach".
+ghost use mathlib.Core.Path.{_≡_};
+ghost use Rattle.train.specs.Coefficients.{first, Within};
+ghost use Rattle.climb.specs.Permitted.{Steady};
+ghost use Rattle.query.specs.Answer.{refused, answered, QueryAnswers};
+ghost use Rattle.query.specs.Begin.{Starts, Fit, FitAhead, answerAt, answerOn};
+use ceilings::Ceiling;
+use climb::permitted::Permitted;
+use climb::release::Release;
+use motion::Overrun;
+use train::Coefficients;
+use train::Gradient;
+use train::Kmh;
+use train::Metre;
+use train::Train;
+use way::Found;
+use way::Way;
+
+// The release speed, the permitted speed, what holds it (mark 1: the curve, 2: the release speed), and the ceilings of the
+// permitted speed; or a refusal and zeros.
+#[repr(C)]
+pub struct Answer {
+    pub refusal: u32,
+    pub release: Kmh,
+    pub permitted: Kmh,
+    pub mark: u32,
+    pub w: Ceiling,
+    pub sbi: Ceiling,
+    pub ebi: Ceiling,
+}
+
+// A refusal, with zeros.
+fn refused_with(n: u32) -> Answer
+    ensures { λ r. ⌜ r ≡ refused n ⌝ }
+{
+    Answer {
+        refusal: n,
+        release: Kmh(0),
+        permitted: Kmh(0),
+        mark: 0,
+        w: Ceiling(0),
+        sbi: Ceiling(0),
+        ebi: Ceiling(0),
+    }
+}
+
+// An answer, with the ceilings of the permitted speed.
+fn given(release: Kmh, permitted: Kmh, mark: u32) -> Answer
+    ensures { λ r. ⌜ r ≡ answered release permitted mark ⌝ }
+{
+    let limits = ceilings::ceilings(permitted);
+    let w = limits.w;
+    let sbi = limits.sbi;
+    let ebi = limits.ebi;
+    Answer {
+        refusal: 0,
+        release: release,
+        permitted: permitted,
+        mark: mark,
+        w: w,
+        sbi: sbi,
+        ebi: ebi,
+    }
+}
+
+// What stands before every answer: the train, the times, the sheet, the signal and the head.
+fn start(train: Train, tm: u32, tr: u32, s: &[u8], signal: u32, head: Metre) -> Found
+    ensures { λ r. ⌜ Starts train tm tr (now (s .entry)) signal (head .0) r ⌝ }
+{
+    let bad = train::refusal::of_train(train);
+    if bad > 0 {
+        return Found::Refused(bad);
+    }
+    let late = ramp::of_times(tm, tr);
+    if late > 0 {
+        return Found::Refused(late);
+    }
+    way::find(s, signal, head)
+}
+
+// The answer with a release speed.
+fn answer_at(
+    k: Coefficients,
+    train: Train,
+    ahead: Gradient,
+    distance: Metre,
+    release: Kmh,
+) -> Answer
+    requires { ⌜ Within k × Steady k × FitAhead train ahead release ⌝ }
+    ensures { λ r. ⌜ r ≡ answerAt k train ahead distance release ⌝ }
+{
+    let permitted = climb::permitted::speed(k, train, ahead, release, distance);
+    match permitted {
+        Permitted::Weak => refused_with(10),
+        Permitted::Release => given(release, release, 2),
+        Permitted::Curve(v) => given(release, v, 1),
+    }
+}
+
+// The answer on a way.
+fn answer_on(k: Coefficients, train: Train, tm: u32, tr: u32, w: Way) -> Answer
+    requires { ⌜ Within k × Steady k × Fit train tm tr w ⌝ }
+    ensures { λ r. ⌜ r ≡ answerOn k train tm tr w ⌝ }
+{
+    let top = train.top;
+    let ahead = w.ahead;
+    let distance = w.distance;
+    let overlap = w.overlap;
+    let past = w.past;
+    let o = Overrun {
+        weight: train.weight,
+        gradient: past,
+        v: Kmh(1),
+        tm: tm,
+        tr: tr,
+    };
+    let release = climb::release::speed(k, o, overlap, top);
+    match release {
+        Release::Weak => refused_with(10),
+        Release::Speed(v) => answer_at(k, train, ahead, distance, v),
+    }
+}
+
+// The query: TM and TR in hundredths of a second, a line sheet, a signal's number from 0, the place of the train's head.
+pub fn query(train: Train, tm: u32, tr: u32, s: &[u8], signal: u32, head: Metre) -> Answer
+    ensures { λ r. ⌜ QueryAnswers first train tm tr (now (s .entry)) signal (head .0) r ⌝ }
+{
+    let found = start(train, tm, tr, s, signal, head);
+    match found {
+        Found::Refused(n) => refused_with(n),
+        Found::Ready(w) => answer_on(train::first_values(), train, tm, tr, w),
+    }
+}
