@@ -1,4 +1,4 @@
-// What designers link: each operation of document 01 that has landed, as a C function. Each repeats the contract of the call below it.
+// What designers link: each operation of document 01, as a C function. Each repeats the contract of the call below it.
 ghost use mathlib.Core.Path.{_≡_};
 ghost use Rattle.train.specs.Units.{kmh};
 ghost use Rattle.train.specs.Coefficients.{first};
@@ -11,9 +11,11 @@ ghost use Rattle.ceilings.specs.Paper.{AsPrinted};
 ghost use Rattle.sheet.specs.Fields.{fourLists};
 ghost use Rattle.reading.specs.Answer.{stretchOf, signalOf, moveOf, Again};
 ghost use Rattle.writing.specs.Answer.{Writes};
+ghost use Rattle.query.specs.Answer.{QueryAnswers};
 ghost use Rattle.approach.specs.Entered.{trainOf};
 use ceilings::Limits;
 use curve::Curve;
+use query::Answer;
 use ramp::Stop;
 use reading::Signal;
 use reading::Stretch;
@@ -152,4 +154,18 @@ pub extern "C" fn approach_sheet_next(sheet: &[u8], mark: Mark) -> Move
     ensures { λ r. ⌜ (r ≡ moveOf (now (sheet .entry)) mark) × Again (now (sheet .entry)) (r .refusal) ⌝ }
 {
     mark.moved(sheet)
+}
+
+#[no_mangle]
+pub extern "C" fn approach_query(
+    train: Entered,
+    tm: u32,
+    tr: u32,
+    sheet: &[u8],
+    signal: u32,
+    head: u32,
+) -> Answer
+    ensures { λ r. ⌜ QueryAnswers first (trainOf train) tm tr (now (sheet .entry)) signal head r ⌝ }
+{
+    query::query(train_of(train), tm, tr, sheet, signal, Metre(head))
 }

@@ -1,7 +1,6 @@
 -- Every accepted input keeps the promise, by the definitions alone.
-use mathlib.Core.Path.{_≡_, refl, _∙_}
-use mathlib.Core.Bool.{true, false, not}
-use Prim.Native.Nat.{ℕ}
+use mathlib.Core.Path.{_≡_, _∙_}
+use mathlib.Core.Bool.{true}
 use borrow.Author.Tests.{leb-true, not-false}
 use lib.Dec.{lit≤}
 use Rattle.train.specs.declared.Coefficients.{Coefficients}

@@ -1,6 +1,6 @@
 -- Lines that agree have the same way; a way's gradients are of the sheet's span; what is turned away.
-use mathlib.Core.Path.{_≡_, refl, sym, ap, _∙_}
-use mathlib.Core.Bool.{Bool, true, false, cond}
+use mathlib.Core.Path.{_≡_, refl, sym, _∙_}
+use mathlib.Core.Bool.{true, false}
 use mathlib.Core.List.{List}
 use Prim.Native.Nat.{ℕ, _+_, _-_, _≤_, _<_}
 use native.Mathlib.Omega.{arith}
@@ -10,14 +10,13 @@ use lib.Dec.{lit≤}
 use Rattle.lists.proofs.Split.{below, earlier}
 use Rattle.train.specs.declared.Gradient.{Gradient}
 use Rattle.train.specs.declared.Metre.{Metre}
-use Rattle.train.specs.Gradient.{Moderate}
 use Rattle.train.specs.Units.{metres}
 use Rattle.sheet.specs.Line.{Line}
 use Rattle.sheet.specs.Sheet.{lineOf, accepted}
 use Rattle.sheet.proofs.Kept.{Kept, headed-of}
-use Rattle.span.specs.Least.{slope, slopeAt, leastOver, leastOf, LeastOver}
+use Rattle.span.specs.Least.{leastOver, LeastOver}
 use Rattle.span.proofs.Points.{same-least}
-use Rattle.way.specs.Way.{wayRefusals, pastOf, wayOf, Agree}
+use Rattle.way.specs.Way.{pastOf, wayOf, Agree}
 use Rattle.way.specs.Find.{refusal, Slope}
 
 -- the least is some stretch's

@@ -5,7 +5,6 @@ use Prim.Native.Nat.{ℕ, _<_}
 use Rattle.train.specs.declared.Gradient.{Gradient}
 use Rattle.train.specs.Gradient.{Moderate}
 use Rattle.train.specs.Refusal.{firstOf}
-use Rattle.sheet.specs.Line.{Line}
 use Rattle.sheet.specs.Sheet.{lineOf}
 use Rattle.way.specs.declared.Way.{Way}
 use Rattle.way.specs.declared.Found.{Found}

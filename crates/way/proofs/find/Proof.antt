@@ -9,7 +9,6 @@ use Prim.Native.Nat.{_+_, _≤_, _<_}
 use native.Mathlib.Omega.{arith}
 use Rattle.train.specs.declared.Metre.{Metre}
 use Rattle.sheet.specs.Sheet.{lineOf, accepted}
-use Rattle.way.specs.Way.{wayOf}
 use Rattle.way.proofs.Ways.{no-sheet, no-signal, beyond, reached, on-line, way-of}
 use Rattle.way.proofs.find.Statement.{statement}
 use Rattle.way.proofs.find.Tie as tie

@@ -1,9 +1,5 @@
 -- `past`: the span is the overlap.
-use borrow.Author.Needs.{needs}
 use denote.Ref.{now}
-use mathlib.Core.Path.{_≡_, refl}
-use Prim.Native.Nat.{_≤_, _<_}
-use lib.Dec.{lit≤}
 use native.Mathlib.Omega.{arith}
 use Rattle.sheet.specs.Sheet.{lineOf}
 use Rattle.sheet.proofs.Kept.{headed-of}

@@ -1,7 +1,7 @@
 -- `last_fitting`: the climb from the speed reached is the whole climb.
 use borrow.Author.Tests.{not-true, not-false}
 use mathlib.Core.Path.{_≡_, refl, sym, _∙_}
-use Prim.Native.Nat.{_-_, _≤_, _<_}
+use Prim.Native.Nat.{_-_, _≤_}
 use native.Mathlib.Omega.{arith}
 use Rattle.climb.specs.Climb.{climb}
 use Rattle.climb.specs.Permitted.{fitsBy}

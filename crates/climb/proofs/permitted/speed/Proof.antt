@@ -4,7 +4,6 @@ use borrow.Author.Tests.{leb-true, not-true, not-false}
 use mathlib.Core.Bool.{true}
 use mathlib.Core.Path.{_≡_, sym, _∙_}
 use native.Mathlib.Nat.{le-refl, le-trans}
-use Rattle.train.specs.Units.{kmh}
 use Rattle.braking.specs.Plan.{Near, Enough}
 use Rattle.braking.specs.Braking.{strong}
 use Rattle.braking.proofs.Exact.{strong-is}

@@ -1,7 +1,6 @@
 -- `release::speed`: no overlap, or too weak along it, or the climb.
 use borrow.Author.Needs.{needs}
-use mathlib.Core.Path.{_≡_, sym, _∙_}
-use Prim.Native.Nat.{_<_}
+use mathlib.Core.Path.{_≡_, _∙_}
 use native.Mathlib.Omega.{arith}
 use Rattle.train.specs.Refusal.{firstOf}
 use Rattle.ramp.specs.Answer.{rampRefusals}

@@ -1,0 +1,16 @@
+-- `answer`: the query of the example's train.
+use borrow.Author.Needs.{needs}
+use Rattle.approach_sheet.proofs.answer.Statement.{statement}
+use Rattle.approach_sheet.proofs.answer.Tie as tie
+
+example-train-requires : tie.Need-example-train-requires
+example-train-requires c κs = search needs
+
+query-requires : tie.Need-query-requires
+query-requires c κs = search needs
+
+returns : tie.Need-returns
+returns c = rw (c .before .example-train .ensures) at (c .query .ensures)
+
+pub answer-spec : {M : Type 1} → statement M
+answer-spec = tie.close (tie.spec example-train-requires query-requires returns)
