@@ -2,10 +2,15 @@
 cargo := PATH="$$PATH:$$HOME/.cargo/bin" cargo
 run := $(cargo) run --release --offline --manifest-path rust/Cargo.toml --bin
 
-example: archives
+example:
+	rt check
+	target/bin/approach_sheet < crates/approach_sheet/stdin
+
+distances: archives
 	$(run) distances
 
 bench: archives
+	$(run) query
 	$(run) step
 	$(run) ramp
 	$(run) sheet
@@ -19,4 +24,4 @@ archives:
 gate:
 	bash .ci/run
 
-.PHONY: example bench archives gate
+.PHONY: example distances bench archives gate

@@ -31,8 +31,11 @@ module _ (fits : ℕ → Bool) where
   pub stops-at : (v end : ℕ) → v < end → fits (v + 1) ≡ false → v ≡ climb fits v (end - v)
   stops-at v end h e = let n : end - v ≡ suc (end - (v + 1)) = omega arith in rw n (sym (stops v (end - (v + 1)) (ap fits (sym (add-one v)) ∙ e)))
 
-  pub ends-at : (v end : ℕ) → end ≤ v → v ≡ climb fits v (end - v)
-  ends-at v end h = let n : end - v ≡ 0 = omega arith in rw n (sym (ends v))
+  pub ends-at : (v end : ℕ) → v ≤ end → end ≤ v → end ≡ climb fits v (end - v)
+  ends-at v end l h =
+      let n : end - v ≡ 0 = omega arith in
+      let e : end ≡ v = omega arith in
+      e ∙ sym (ends v) ∙ ap (climb fits v) (sym n)
 
   -- each speed up to it fits, and the next does not
   pub record Highest (v n r : ℕ) : Type 0 where

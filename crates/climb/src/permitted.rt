@@ -38,7 +38,7 @@ fn last_fitting(c: Course, v0: Kmh, d: Metre, top: Kmh) -> Kmh
     let mut v = v0.0;
     let best = loop {
         if v >= end {
-            break v;
+            break end;
         }
         let next = v + 1;
         if !fits(c, Kmh(next), v0, d) {

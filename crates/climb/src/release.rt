@@ -61,7 +61,7 @@ fn last_stopping(k: Coefficients, o: Overrun, overlap: Metre, top: Kmh) -> Kmh
     let mut v: u32 = 0;
     let best = loop {
         if v >= end {
-            break v;
+            break end;
         }
         let next = v + 1;
         if !stops_within(k, at_speed(o, Kmh(next)), overlap) {

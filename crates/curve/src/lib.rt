@@ -112,5 +112,7 @@ pub fn fits(curve: Curve, c: Course, m: Motion, d: Metre) -> bool
     ensures { λ r. ⌜ r ≡ leb (sumOf curve c m) (valueOf (m .scale) * (1000 * d .0)) ⌝ }
 {
     let scale = m.scale;
-    wide::at_most(sum_of(curve, c, m), wide::times(scale, 1000 * d.0 as u64))
+    let sum = sum_of(curve, c, m);
+    let end = wide::times(scale, 1000 * d.0 as u64);
+    wide::at_most(sum, end)
 }

@@ -60,7 +60,7 @@ module _ (k : Coefficients) (t : Train) (tm tr : ℕ) (w : Way) (f : Fit t tm tr
 
   module _ (steady : Steady k) (past : weakPast k (pastAt t tm tr w 1) (w .overlap) ≡ false) (ahead : strong k t (w .ahead) (release k t tm tr w) (release k t tm tr w) ≡ true) where
     abbrev R : ℕ
-    R = releaseOf k (pastAt t tm tr w 1) (w .overlap) (t .top)
+    R = release k t tm tr w .0
 
     -- the third demand
     pub kept : Demand k t tm tr w R (permittedOf k t (w .ahead) (kmh R) (w .distance)) (markOf k t (w .ahead) (kmh R) (w .distance))

@@ -36,10 +36,12 @@ fn past(s: &[u8], place: Metre, overlap: Metre) -> Gradient
     requires { ⌜ (accepted (now s) ≡ true) × (place .0 + overlap .0 ≤ lineOf (now s) .end) ⌝ }
     ensures { λ r. ⌜ Slope (pastOf (lineOf (now (s .entry))) (place .0) (overlap .0)) r ⌝ }
 {
-    if overlap.0 < 1 {
+    let from = place.0;
+    let length = overlap.0;
+    if length < 1 {
         return Gradient { rise: 0, fall: 0 };
     }
-    span::least(s, place, Metre(place.0 + overlap.0))
+    span::least(s, place, Metre(from + length))
 }
 
 // The way from the head to the signal of that number, from 0, and past it.

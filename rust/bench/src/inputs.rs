@@ -1,7 +1,50 @@
 //! Inputs that keep what the contracts ask: fixed pseudo-random streams, with 0, the largest word and short words among them.
-use crate::library::Line;
-use crate::{peer, Wide};
+use crate::library::{self, Answer, Line, Train, Written};
+use crate::{peer, query, Wide};
 use std::collections::BTreeSet;
+
+/// Document 01's example of a sheet, and the train of the program that prints it.
+pub const EXAMPLE: [u8; 38] = [
+    0x01, 0x00, 0x02, 0x00, 0x14, 0x00, 0x00, 0x00, 0x1A, 0x00, 0x00, 0x00, 0x26, 0x00, 0x00, 0x00, 0xD0, 0x07, 0x00,
+    0x00, 0x00, 0x00, 0x00, 0x00, 0x00, 0x00, 0x00, 0x00, 0x00, 0x00, 0x78, 0x00, 0x21, 0x04, 0x00, 0x00, 0x00, 0x00,
+];
+pub const EXAMPLE_TRAIN: Train =
+    Train { freight: false, electropneumatic: true, braked_weight: 100, length: 200, top_speed: 100 };
+
+/// What an approach query is asked.
+#[derive(Clone, Debug)]
+pub struct Query {
+    pub train: Train,
+    pub tm: u32,
+    pub tr: u32,
+    pub sheet: Vec<u8>,
+    pub signal: u32,
+    pub head: u32,
+}
+
+impl Query {
+    /// The query of document 01's printing program for signal 0.
+    pub fn printed(sheet: Vec<u8>) -> Query {
+        Query { train: EXAMPLE_TRAIN, tm: 200, tr: 400, sheet, signal: 0, head: 0 }
+    }
+
+    pub fn proved(&self) -> Answer {
+        library::query(self.train, self.tm, self.tr, &self.sheet, self.signal, self.head)
+    }
+
+    pub fn peer(&self) -> Answer {
+        query::query(self.train, self.tm, self.tr, &self.sheet, self.signal, self.head)
+    }
+}
+
+/// The library's sheet of a line that keeps every rule.
+pub fn written(line: &Line) -> Vec<u8> {
+    // No zeros, so that a byte that is not written shows.
+    let mut sheet = vec![0xa5; 20 + 6 * (line.starts.len() + line.places.len())];
+    let written = library::sheet_write(line, &mut sheet);
+    assert_eq!(written, Written { refusal: 0, length: sheet.len() as u32 }, "{line:?}");
+    sheet
+}
 
 /// SplitMix64.
 pub struct Random(pub u64);
@@ -56,6 +99,16 @@ impl Random {
             2 => i32::MIN,
             3 => i32::MAX,
             _ => self.below(71) as i32 - 35,
+        }
+    }
+
+    pub fn train(&mut self) -> Train {
+        Train {
+            freight: self.below(2) == 0,
+            electropneumatic: self.below(2) == 0,
+            braked_weight: self.braked_weight(),
+            length: self.near(0, 1000),
+            top_speed: self.near(1, 330),
         }
     }
 
@@ -128,6 +181,25 @@ impl Random {
         let gradients = starts.iter().map(|_| self.below(71) as i16 - 35).collect();
         let places = self.rising(signals, end);
         let overlaps = places.iter().map(|place| self.overlap(end - place)).collect();
+        Line { starts, gradients, places, overlaps, end }
+    }
+
+    /// Below one of the ends, so that small numbers are not rare.
+    pub fn below_any(&mut self, ends: &[u32]) -> u32 {
+        let end = ends[self.below(ends.len() as u64) as usize];
+        self.below(end as u64) as u32
+    }
+
+    /// A line of some kilometres at most, with short overlaps and mostly gentle slopes: one where speeds differ.
+    pub fn short_line(&mut self) -> Line {
+        let end = 8 + self.below_any(&[50, 1500, 6000, 20_000]);
+        let (stretches, signals) = (1 + self.below(8) as u32, 1 + self.below(4) as u32);
+        let mut starts = self.rising(stretches, end);
+        starts[0] = 0;
+        let steepest = [3, 12, 35][self.below(3) as usize];
+        let gradients = starts.iter().map(|_| self.below(2 * steepest + 1) as i16 - steepest as i16).collect();
+        let places = self.rising(signals, end);
+        let overlaps = places.iter().map(|place| self.below_any(&[1, 20, 200, 1500]).min(end - place) as u16).collect();
         Line { starts, gradients, places, overlaps, end }
     }
 }

@@ -3,6 +3,7 @@ pub mod inputs;
 pub mod library;
 pub mod peer;
 pub mod proved;
+pub mod query;
 pub mod ramp;
 pub mod sheet;
 pub mod step;

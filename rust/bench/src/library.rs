@@ -47,6 +47,23 @@ pub struct Limits {
     pub ebi: u32,
 }
 
+/// Speeds in km/h, a mark, and the permitted speed's ceilings in 120ths of a km/h.
+#[repr(C)]
+#[derive(Clone, Copy, Debug, PartialEq, Eq)]
+pub struct Answer {
+    pub refusal: u32,
+    pub release: u32,
+    pub permitted: u32,
+    pub mark: u32,
+    pub w: u32,
+    pub sbi: u32,
+    pub ebi: u32,
+}
+
+/// An answer's marks.
+pub const CURVE: u32 = 1;
+pub const RELEASE: u32 = 2;
+
 /// What a sheet is written from: starts, places, overlaps and the end in metres, gradients in per mille.
 #[derive(Clone, Debug, PartialEq, Eq)]
 pub struct Line {
@@ -131,6 +148,15 @@ extern "C" {
     fn approach_sheet_stretch(sheet: *const u8, length: usize, number: u32) -> Stretch;
     fn approach_sheet_signal(sheet: *const u8, length: usize, number: u32) -> Signal;
     fn approach_sheet_next(sheet: *const u8, length: usize, mark: Mark) -> Move;
+    fn approach_query(
+        train: Train,
+        tm: u32,
+        tr: u32,
+        sheet: *const u8,
+        length: usize,
+        signal: u32,
+        head: u32,
+    ) -> Answer;
 }
 
 pub fn step(train: Train, v: u32, v0: u32, gradient: i32) -> Distances {
@@ -185,4 +211,9 @@ pub fn sheet_signal(sheet: &[u8], number: u32) -> Signal {
 
 pub fn sheet_next(sheet: &[u8], mark: Mark) -> Move {
     unsafe { approach_sheet_next(sheet.as_ptr(), sheet.len(), mark) }
+}
+
+/// TM and TR in hundredths of a second, the signal by its number, the head in metres.
+pub fn query(train: Train, tm: u32, tr: u32, sheet: &[u8], signal: u32, head: u32) -> Answer {
+    unsafe { approach_query(train, tm, tr, sheet.as_ptr(), sheet.len(), signal, head) }
 }

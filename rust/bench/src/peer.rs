@@ -16,7 +16,7 @@ pub extern "C" fn from_word(x: u64) -> Wide {
 }
 
 #[inline(always)]
-fn times_inline(w: Wide, m: u64) -> Wide {
+pub fn times_inline(w: Wide, m: u64) -> Wide {
     let c = w.low as u128 * m as u128;
     let e = w.mid as u128 * m as u128 + (c >> 64);
     Wide { low: c as u64, mid: e as u64, high: w.high * m + (e >> 64) as u64 }

@@ -1,13 +1,13 @@
 //! The ramp as one would write it in Rust for accepted inputs: the same whole numbers, with u128 for the place. It stands behind
 //! a call that is not inlined, as the proved one does.
 use crate::library::Stop;
-use crate::step::{nominal, slope};
+use crate::step::{nominal, slope, LEAST7};
 
 /// Some 17 minutes, by which every accepted train rolls back.
 const LONGEST: u64 = 1 << 20;
 
 /// Times in ms, speeds and decelerations scaled by twice the rise time.
-struct Plan {
+pub(crate) struct Plan {
     start: u64,
     up: u64,
     down: u64,
@@ -16,7 +16,7 @@ struct Plan {
     tr: u64,
 }
 
-fn plan(braked_weight: u32, gradient: i32, v: u32, tm: u32, tr: u32) -> Plan {
+pub(crate) fn plan(braked_weight: u32, gradient: i32, v: u32, tm: u32, tr: u32) -> Plan {
     let (up7, down7) = slope(gradient);
     let tr = 10 * tr as u64;
     Plan {
@@ -59,11 +59,21 @@ impl Plan {
         let loss = 3 * t as u128 * (self.up * t) as u128 + 2 * self.brake as u128 * cubes as u128;
         (gain - loss).div_ceil(1_080_000_000_000 * self.tr as u128) as u32
     }
+
+    #[inline(always)]
+    pub(crate) fn stop(&self) -> Stop {
+        let t = self.last_forward();
+        Stop { refusal: 0, distance: self.place(t) + 1, moment: t as u32 }
+    }
+}
+
+/// Whether dp + di is not below 0.05 m/s².
+pub(crate) fn strong(braked_weight: u32, gradient: i32) -> bool {
+    let (up7, down7) = slope(gradient);
+    90 * nominal(braked_weight) + up7 >= down7 + LEAST7
 }
 
 #[inline(never)]
 pub extern "C" fn ramp(braked_weight: u32, gradient: i32, v: u32, tm: u32, tr: u32) -> Stop {
-    let plan = plan(braked_weight, gradient, v, tm, tr);
-    let t = plan.last_forward();
-    Stop { refusal: 0, distance: plan.place(t) + 1, moment: t as u32 }
+    plan(braked_weight, gradient, v, tm, tr).stop()
 }

@@ -5,7 +5,7 @@ use crate::library::Signal;
 const HEADER: usize = 20;
 
 /// A stretch or a signal: a place in four bytes, then its gradient or overlap.
-type Entry = [u8; 6];
+pub(crate) type Entry = [u8; 6];
 
 #[inline(always)]
 fn split(&[a, b, c, d, e, f]: &Entry) -> (u32, [u8; 2]) {
@@ -48,14 +48,30 @@ fn rise(entries: &[Entry], end: u32, keeps: impl Fn(u32, [u8; 2]) -> bool) -> bo
     true
 }
 
-/// The signals of a sheet that keeps every rule.
+/// The stretches and the signals of a sheet that keeps every rule.
 #[inline(always)]
-fn checked(sheet: &[u8]) -> Option<&[Entry]> {
+pub(crate) fn checked(sheet: &[u8]) -> Option<(&[Entry], &[Entry])> {
     let (stretches, signals, end) = parts(sheet)?;
     let kept = split(&stretches[0]).0 == 0
         && rise(stretches, end, |_, gradient| i16::from_le_bytes(gradient).unsigned_abs() <= 35)
         && rise(signals, end, |place, overlap| u16::from_le_bytes(overlap) as u32 <= end - place);
-    kept.then_some(signals)
+    kept.then_some((stretches, signals))
+}
+
+/// Place and overlap of a signal by its number.
+#[inline(always)]
+pub(crate) fn numbered(signals: &[Entry], number: u32) -> Option<(u32, u32)> {
+    let (place, overlap) = split(signals.get(number as usize)?);
+    Some((place, u16::from_le_bytes(overlap) as u32))
+}
+
+/// The least gradient over the points `from` up to but not including `to`, of which there is one at least.
+#[inline(always)]
+pub(crate) fn least(stretches: &[Entry], from: u32, to: u32) -> i32 {
+    let begun = |point: u32| stretches.partition_point(|stretch| split(stretch).0 < point);
+    // The first stretch starts at 0, so one has begun.
+    let held = &stretches[begun(from + 1) - 1..begun(to)];
+    held.iter().map(|stretch| i16::from_le_bytes(split(stretch).1)).fold(i16::MAX, i16::min).into()
 }
 
 #[inline(never)]
@@ -67,8 +83,7 @@ pub fn accepts(sheet: &[u8]) -> bool {
 #[inline(never)]
 pub fn signal(sheet: &[u8], number: u32) -> Signal {
     let refused = |refusal| Signal { refusal, place: 0, overlap: 0 };
-    let Some(signals) = checked(sheet) else { return refused(7) };
-    let Some(signal) = signals.get(number as usize) else { return refused(8) };
-    let (place, overlap) = split(signal);
-    Signal { refusal: 0, place, overlap: u16::from_le_bytes(overlap) as u32 }
+    let Some((_, signals)) = checked(sheet) else { return refused(7) };
+    let Some((place, overlap)) = numbered(signals, number) else { return refused(8) };
+    Signal { refusal: 0, place, overlap }
 }

@@ -6,9 +6,12 @@ use crate::{peer, Wide};
 /// A speed of 1 km/h in m/s / (9·10¹⁵).
 const KMH: u64 = 2_500_000_000_000_000;
 
+/// The least deceleration that a model is used with, in 10⁻⁷ m/s².
+pub(crate) const LEAST7: u64 = 500_000;
+
 /// What the speeds do not change.
 #[derive(Clone, Copy)]
-struct Course {
+pub(crate) struct Course {
     t8: u64,
     r8: u64,
     up7: u64,
@@ -25,7 +28,7 @@ struct Motion {
     scale: Wide,
 }
 
-fn course(train: Train, gradient: i32) -> Course {
+pub(crate) fn course(train: Train, gradient: i32) -> Course {
     let square = |l: u64| l * l;
     let passenger = 3_500_000 + 15 * square(if train.electropneumatic { 0 } else { train.length as u64 });
     let freight = 13_500_000 + 4 * square(train.length as u64);
@@ -74,8 +77,9 @@ fn motion(c: Course, v: u32, v0: u32) -> Motion {
     Motion { a, beta, speed, part: product(square, 50_000 * s), scale: product(8_100_000_000_000_000_000_000, a) }
 }
 
+/// A curve's distance in millimetres, times the motion's scale.
 #[inline(always)]
-fn distance(curve: Curve, c: Course, m: &Motion) -> u32 {
+fn scaled(curve: Curve, c: Course, m: &Motion) -> Wide {
     let (service, warning) = match curve {
         Curve::Ebi => (0, 0),
         Curve::Sbi => (c.r8, 0),
@@ -83,7 +87,25 @@ fn distance(curve: Curve, c: Course, m: &Motion) -> u32 {
         Curve::P => (c.r8, 300_000_000),
     };
     let way = (c.t8 + service) as u128 * m.beta as u128 + warning as u128 * m.speed as u128;
-    peer::quotient_up_inline(peer::sum_inline(product(way, 9 * m.a), m.part), m.scale)
+    peer::sum_inline(product(way, 9 * m.a), m.part)
+}
+
+#[inline(always)]
+fn distance(curve: Curve, c: Course, m: &Motion) -> u32 {
+    peer::quotient_up_inline(scaled(curve, c, m), m.scale)
+}
+
+/// Whether dp + di from v0 to v0 is not below 0.05 m/s².
+pub(crate) fn strong(c: Course, v0: u32) -> bool {
+    let s = v0.max(1) as u64;
+    c.power * (100 * s - 5 * v0 as u64) + 100 * s * c.up7 >= 100 * s * (c.down7 + LEAST7)
+}
+
+/// Whether P is at most as many millimetres; no division.
+#[inline(always)]
+pub(crate) fn fits(c: Course, v: u32, v0: u32, millimetres: u32) -> bool {
+    let m = motion(c, v, v0);
+    peer::at_most(scaled(Curve::P, c, &m), peer::times_inline(m.scale, millimetres as u64))
 }
 
 #[inline(never)]

@@ -1,5 +1,5 @@
 //! The library's line sheets against the reference, on kept and damaged sheets and lists, and the peer against both.
-use bench::inputs::Random;
+use bench::inputs::{written, Random, EXAMPLE};
 use bench::library::{sheet_next, sheet_signal, sheet_stretch, sheet_write};
 use bench::library::{Line, Mark, Move, Signal, Stretch, Written, FRESH};
 use reference::sheet;
@@ -7,12 +7,6 @@ use reference::sheet;
 /// What stands in lent memory before a call, and in as many bytes on either side of it.
 const UNTOUCHED: u8 = 0xa5;
 const GUARD: usize = 7;
-
-/// Document 01's example.
-const EXAMPLE: [u8; 38] = [
-    0x01, 0x00, 0x02, 0x00, 0x14, 0x00, 0x00, 0x00, 0x1A, 0x00, 0x00, 0x00, 0x26, 0x00, 0x00, 0x00, 0xD0, 0x07, 0x00,
-    0x00, 0x00, 0x00, 0x00, 0x00, 0x00, 0x00, 0x00, 0x00, 0x00, 0x00, 0x78, 0x00, 0x21, 0x04, 0x00, 0x00, 0x00, 0x00,
-];
 
 fn expected_stretch(bytes: &[u8], number: u32) -> Stretch {
     match sheet::stretch(bytes, number) {
@@ -346,14 +340,6 @@ fn fields(bytes: &[u8]) -> Line {
         overlaps: signals.iter().map(|signal| signal.overlap.try_into().unwrap()).collect(),
         end: u32::from_le_bytes(bytes[16..20].try_into().unwrap()),
     }
-}
-
-fn written(line: &Line) -> Vec<u8> {
-    let mut sheet = vec![UNTOUCHED; 4000];
-    let Written { refusal, length } = sheet_write(line, &mut sheet);
-    assert_eq!(refusal, 0, "{line:?}");
-    sheet.truncate(length as usize);
-    sheet
 }
 
 /// The library alone: what it writes it reads back, and what it reads it writes back.

@@ -1,20 +1,12 @@
 //! The library's distances, rows and ceilings against the reference, on accepted and refused inputs, and the peer against both.
 use bench::inputs::Random;
 use bench::library::{ceilings, row, step, Curve, Distances, Limits, Train, Written, CURVES};
-use reference::train::Train as PaperTrain;
+use paper::on_paper;
+
+mod paper;
 
 /// What stands in lent memory before a call.
 const UNTOUCHED: u32 = 0xdead_beef;
-
-fn on_paper(t: Train) -> PaperTrain {
-    PaperTrain {
-        freight: t.freight,
-        electropneumatic: t.electropneumatic,
-        braked_weight: t.braked_weight,
-        length: t.length,
-        top_speed: t.top_speed,
-    }
-}
 
 fn expected(t: Train, v: u32, v0: u32, gradient: i32) -> Distances {
     match reference::step::step(on_paper(t), v, v0, gradient) {
@@ -32,16 +24,6 @@ fn check(t: Train, v: u32, v0: u32, gradient: i32) -> u32 {
     d.refusal
 }
 
-fn train(random: &mut Random) -> Train {
-    Train {
-        freight: random.below(2) == 0,
-        electropneumatic: random.below(2) == 0,
-        braked_weight: random.braked_weight(),
-        length: random.near(0, 1000),
-        top_speed: random.near(1, 330),
-    }
-}
-
 /// V, and mostly a V0 that is not above it.
 fn speeds(random: &mut Random) -> (u32, u32) {
     let v = random.near(0, 330);
@@ -54,7 +36,7 @@ fn distances_at_random() {
     let mut random = Random(21);
     let mut seen = [0; 12];
     for _ in 0..200_000 {
-        let (t, (v, v0), gradient) = (train(&mut random), speeds(&mut random), random.gradient());
+        let (t, (v, v0), gradient) = (random.train(), speeds(&mut random), random.gradient());
         seen[check(t, v, v0, gradient) as usize] += 1;
     }
     for refusal in [0, 1, 2, 3, 4, 5, 10] {
@@ -127,7 +109,7 @@ fn rows_between_untouched_places() {
     let mut random = Random(22);
     let mut seen = [0; 12];
     for round in 0..2_000 {
-        let (t, gradient) = (train(&mut random), random.gradient());
+        let (t, gradient) = (random.train(), random.gradient());
         let top = t.top_speed.min(330);
         let v0 = if round % 8 == 0 { random.near(0, 330) } else { random.below(top as u64 + 1) as u32 };
         let needed = (top + 1).saturating_sub(v0) as usize;

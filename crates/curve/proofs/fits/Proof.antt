@@ -1,5 +1,4 @@
 -- `fits`: both sides fit 192 bits.
-use mathlib.Core.Path.{_∙_}
 use borrow.Author.Needs.{needs}
 use native.Mathlib.Omega.{arith}
 use Rattle.curve.proofs.Bounds.{room-fits}
@@ -22,7 +21,7 @@ at-most-requires : tie.Need-at-most-requires
 at-most-requires c κs = search needs
 
 returns : tie.Need-returns
-returns c = c .at-most .ensures ∙ rw (c .before .times .ensures, c .before .before .before .sum-of .ensures)
+returns c = rw (c .at-most .ensures, c .before .times .ensures, c .before .before .before .sum-of .ensures)
 
 pub fits-spec : {M : Type 1} → statement M
 fits-spec = tie.close (tie.spec sum-of-requires cast-times mul-times times-requires at-most-requires returns)

@@ -26,7 +26,7 @@ returns-2 : tie.Need-returns-2
 returns-2 c =
     let e = c .before .before in
     let a = e .before .before .before .args in
-    (c .if2 .taken, by-times (a .train) (a .tm) (a .tr) (now (a .s)) (a .signal) (a .head .0) (good e) _ (c .if2 .taken) (c .before .of-times .ensures))
+    (omega (arith, c .if2 .taken), by-times (a .train) (a .tm) (a .tr) (now (a .s)) (a .signal) (a .head .0) (good e) _ (c .if2 .taken) (c .before .of-times .ensures))
 
 find-requires : tie.Need-find-requires
 find-requires c κs = search needs

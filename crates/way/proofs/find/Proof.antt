@@ -54,7 +54,7 @@ returns-3 c =
     (lit< tt, beyond (now (a .s)) (a .signal) (a .head .0) (held (n .before .before)) (numbered n) (omega (arith, c .if3 .taken, ap (λ (r : Metre). r .0) (c .before .before .before .before .place .ensures))))
 
 ahead-requires : tie.Need-ahead-requires
-ahead-requires c κs = let e = c .before .before in let b = stands e in (held (e .before .before .before .before .before .before .before), b .0, b .1 .0)
+ahead-requires c κs = let e = c .before .before in let b = stands e in (held (e .before .before .before .before .before .before .before), omega (arith, b .0), b .1 .0)
 
 past-requires : tie.Need-past-requires
 past-requires c κs = let e = c .before .before .before in let b = stands e in (held (e .before .before .before .before .before .before .before), b .1 .1)

@@ -10,14 +10,14 @@ use Rattle.way.proofs.past.Tie as tie
 returns : tie.Need-returns
 returns c = no-overlap _ _ _ (omega (arith, c .if1 .taken))
 
-add-t5 : tie.Need-add-t5
-add-t5 c = let s = c .before .before .before .before .before in let e = headed-of _ (s .pre .0) .1 .counts .ends in omega (arith, s .pre .1)
+add-t7 : tie.Need-add-t7
+add-t7 c = let s = c .before .before in let e = headed-of _ (s .pre .0) .1 .counts .ends in omega (arith, s .pre .1)
 
 least-requires : tie.Need-least-requires
-least-requires c κs = let s = c .before .before .before .before .before in (s .pre .0, omega (arith, c .before .before .if1 .left), s .pre .1)
+least-requires c κs = let s = c .before .before in let h = c .if1 .left in (s .pre .0, omega arith, omega (arith, s .pre .1))
 
 returns-2 : tie.Need-returns-2
-returns-2 c = let s = c .before .before .before .before .before .before in some-overlap (lineOf (now (s .args .s))) _ _ _ (headed-of _ (s .pre .0) .1) (omega (arith, c .before .before .before .if1 .left)) (c .least .ensures)
+returns-2 c = let s = c .before .before .before in some-overlap (lineOf (now (s .args .s))) _ _ _ (headed-of _ (s .pre .0) .1) (c .before .if1 .left) (c .least .ensures)
 
 pub past-spec : {M : Type 1} → statement M
-past-spec = tie.close (tie.spec returns add-t5 least-requires returns-2)
+past-spec = tie.close (tie.spec returns add-t7 least-requires returns-2)

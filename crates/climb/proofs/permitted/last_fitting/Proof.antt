@@ -16,7 +16,7 @@ abbrev μ-loop : tie.MeasureT-loop
 μ-loop c v0 d end v₀ v = end - v
 
 loop-holds : tie.Need-loop-holds Inv-loop μ-loop
-loop-holds c = (omega arith, c .pre .2, refl)
+loop-holds c = (omega arith, omega (arith, c .pre .2), refl)
 
 add-next : tie.Need-add-next Inv-loop μ-loop
 add-next c = let s = c .before .before in omega (arith, c .if1 .left, s .pre .3)
@@ -41,7 +41,7 @@ returns : tie.Need-returns Inv-loop μ-loop
 returns c =
     let l = c .before in
     let a = l .before .args in
-    ends-at (fitsBy (a .c) (a .v0 .0) (a .d .0)) (l .loop .v) _ (c .if1 .taken) ∙ l .loop .inv .2
+    ends-at (fitsBy (a .c) (a .v0 .0) (a .d .0)) (l .loop .v) _ (l .loop .inv .1) (c .if1 .taken) ∙ l .loop .inv .2
 
 returns-2 : tie.Need-returns-2 Inv-loop μ-loop
 returns-2 c =

@@ -55,7 +55,7 @@ returns c =
     let l = c .before in
     let a = l .before .before .args in
     let f = stopsWithin (a .k) (a .o) (a .overlap) in
-    ends-at f (l .loop .v) _ (c .if1 .taken) ∙ l .loop .inv .1 ∙ ap (climb f 0) (l .before .highest .ensures)
+    ends-at f (l .loop .v) _ (l .loop .inv .0) (c .if1 .taken) ∙ l .loop .inv .1 ∙ ap (climb f 0) (l .before .highest .ensures)
 
 returns-2 : tie.Need-returns-2 Inv-loop μ-loop
 returns-2 c =
