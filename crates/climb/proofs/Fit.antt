@@ -19,7 +19,8 @@ use Rattle.curve.specs.declared.Curve.the-variants as curve
 use Rattle.curve.specs.Step.{P}
 use Rattle.curve.proofs.Exact.{number, at-most-is, fits-is}
 use Rattle.climb.specs.Climb.{climb}
-use Rattle.climb.specs.Permitted.{Steady, fits, fitsBy}
+use Rattle.climb.specs.Permitted.{fits}
+use Rattle.climb.specs.Find.{Steady, fitsBy}
 use Rattle.climb.proofs.Climbing.{same-climb}
 
 module _ (k : Coefficients) (within : Within k) (steady : Steady k) (t : Train) (g : Gradient) (c : Course) (is : IsCourse k t g c) (v0 : Kmh) (enough : Enough c (v0 .0) (v0 .0)) where

@@ -1,3 +1,4 @@
 pub mod Climb
 pub mod Release
 pub mod Permitted
+pub mod Find

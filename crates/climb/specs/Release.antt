@@ -1,6 +1,5 @@
 -- Document 01, "Approach": the release speed.
-use mathlib.Core.Path.{_≡_}
-use mathlib.Core.Bool.{Bool, true, false, not, _&&_, cond}
+use mathlib.Core.Bool.{Bool, not, _&&_, cond}
 use Prim.Native.Nat.{ℕ, _*_, min}
 use lib.Dec.{leb, ltb, eqb}
 use Rattle.train.specs.declared.Kmh.{Kmh}
@@ -9,8 +8,6 @@ use Rattle.train.specs.declared.Coefficients.{Coefficients}
 use Rattle.train.specs.Units.{kmh}
 use Rattle.motion.specs.declared.Overrun.{Overrun}
 use Rattle.ramp.specs.Answer.{overrun, strong, distance}
-use Rattle.climb.specs.declared.release.Release.{Release}
-use Rattle.climb.specs.declared.release.Release.the-variants.{Weak, Speed}
 use Rattle.climb.specs.Climb.{climb}
 
 -- the same motion from v km/h
@@ -30,8 +27,3 @@ module _ (k : Coefficients) (o : Overrun) (overlap : Metre) where
   -- refusal 10 of the ramp, which is consulted where there is an overlap; it is the same at every speed
   unfoldable pub weakPast : Bool
   weakPast = ltb 0 (overlap .0) && not (strong k o)
-
-  -- what the code answers
-  abbrev pub Releases : Kmh → Release → Type 0
-  Releases top Weak = weakPast ≡ true
-  Releases top (Speed v) = (weakPast ≡ false) × (v .0 ≡ releaseOf top)

@@ -5,7 +5,7 @@ ghost use Rattle.train.specs.Coefficients.{Within};
 ghost use Rattle.train.specs.Gradient.{Moderate};
 ghost use Rattle.braking.specs.Plan.{Small, Near, Enough};
 ghost use Rattle.climb.specs.Climb.{climb};
-ghost use Rattle.climb.specs.Permitted.{fitsBy, Steady, Permits};
+ghost use Rattle.climb.specs.Find.{fitsBy, Steady, Permits};
 use braking::Course;
 use curve::Curve;
 use train::Coefficients;

@@ -29,7 +29,8 @@ use Rattle.way.specs.Way.{wayRefusals}
 use Rattle.way.specs.Find.{Finds}
 use Rattle.climb.specs.declared.permitted.Permitted.the-variants.{Weak, Release, Curve}
 use Rattle.climb.specs.Release.{releaseOf, weakPast}
-use Rattle.climb.specs.Permitted.{onCurve, onRelease, Steady, permittedOf, markOf, Permits}
+use Rattle.climb.specs.Permitted.{onCurve, onRelease, permittedOf, markOf}
+use Rattle.climb.specs.Find.{Steady, Permits}
 use Rattle.query.specs.declared.Answer.{Answer}
 use Rattle.query.specs.Demand.{pastAt, Demand}
 use Rattle.query.specs.Answer.{refused, answered, release, brakeRefusals, accepted, inputs, wayTo, queryRefusals, answerOf, QueryAnswers}

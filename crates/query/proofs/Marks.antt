@@ -18,7 +18,8 @@ use Rattle.braking.specs.Plan.{Enough}
 use Rattle.braking.specs.Agreement.{IsCourse}
 use Rattle.way.specs.declared.Way.{Way}
 use Rattle.climb.specs.Climb.{climb}
-use Rattle.climb.specs.Permitted.{onCurve, onRelease, Steady, fits, permittedOf, markOf}
+use Rattle.climb.specs.Permitted.{onCurve, onRelease, fits, permittedOf, markOf}
+use Rattle.climb.specs.Find.{Steady}
 use Rattle.climb.proofs.Climbing.{highest}
 use Rattle.climb.proofs.Fit as fit
 use Rattle.query.specs.Demand.{toSignal, exactP, Marked}

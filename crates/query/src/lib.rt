@@ -1,7 +1,7 @@
 // The approach query: how fast a train may come up to a closed signal, and how fast it may creep past. Document 01, "Approach".
 ghost use mathlib.Core.Path.{_≡_};
 ghost use Rattle.train.specs.Coefficients.{first, Within};
-ghost use Rattle.climb.specs.Permitted.{Steady};
+ghost use Rattle.climb.specs.Find.{Steady};
 ghost use Rattle.query.specs.Answer.{refused, answered, QueryAnswers};
 ghost use Rattle.query.specs.Begin.{Starts, Fit, FitAhead, answerAt, answerOn};
 use ceilings::Ceiling;

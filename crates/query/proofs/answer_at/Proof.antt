@@ -2,7 +2,7 @@
 use borrow.Author.Needs.{needs}
 use mathlib.Core.Path.{_∙_}
 use Rattle.climb.specs.declared.permitted.Permitted.the-variants.{Weak, Release, Curve}
-use Rattle.climb.specs.Permitted.{Permits}
+use Rattle.climb.specs.Find.{Permits}
 use Rattle.query.proofs.Answers.{too-weak, by-release, by-curve}
 use Rattle.query.proofs.answer_at.Statement.{statement}
 use Rattle.query.proofs.answer_at.Tie as tie

@@ -2,7 +2,7 @@
 use borrow.Author.Needs.{needs}
 use mathlib.Core.Path.{_∙_}
 use Rattle.climb.specs.declared.release.Release.the-variants.{Weak, Speed}
-use Rattle.climb.specs.Release.{Releases}
+use Rattle.climb.specs.Find.{Releases}
 use Rattle.query.specs.Demand.{pastAt}
 use Rattle.query.proofs.Creep.{inputs-past}
 use Rattle.query.proofs.Answers.{fit-ahead, too-weak-past, with-release}

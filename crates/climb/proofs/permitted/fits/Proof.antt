@@ -4,7 +4,7 @@ use mathlib.Core.Path.{refl, _∙_}
 use Rattle.curve.specs.declared.Curve.the-variants.{P}
 use Rattle.curve.proofs.Bounds.{moving}
 use Rattle.curve.proofs.Exact.{sum-is, over-is}
-use Rattle.climb.specs.Permitted.{fitsBy}
+use Rattle.climb.specs.Find.{fitsBy}
 use Rattle.climb.proofs.permitted.fits.Statement.{statement}
 use Rattle.climb.proofs.permitted.fits.Tie as tie
 

@@ -4,7 +4,7 @@ use mathlib.Core.Path.{_≡_, refl, sym, _∙_}
 use Prim.Native.Nat.{_-_, _≤_}
 use native.Mathlib.Omega.{arith}
 use Rattle.climb.specs.Climb.{climb}
-use Rattle.climb.specs.Permitted.{fitsBy}
+use Rattle.climb.specs.Find.{fitsBy}
 use Rattle.climb.proofs.Climbing.{goes-on, stops-at, ends-at}
 use Rattle.climb.proofs.permitted.last_fitting.Statement.{statement}
 use Rattle.climb.proofs.permitted.last_fitting.Tie as tie
