@@ -1,5 +1,6 @@
 //! Document 01's approach query: its printed lines, its refusals, the ends of its spans and the desk's third demand.
 
+use numbers::Numbers;
 use reference::approach::{approach, keeps_demand, printed, Answer, Fault, Mark};
 use reference::ceilings::ceilings;
 use reference::ramp::{greatest_place, ramp};
@@ -8,6 +9,8 @@ use reference::step::{exact_p, step};
 use reference::train::Train;
 use reference::units::millimetres;
 use std::collections::BTreeMap;
+
+mod numbers;
 
 /// The sheet that document 01 prints: one level stretch, signals at 0 and 1,057 m, line end 2,000 m.
 const EXAMPLE: &str = "01 00 02 00 14 00 00 00 1A 00 00 00 26 00 00 00 D0 07 00 00 \
@@ -67,17 +70,7 @@ fn answer(release: u32, permitted: u32, mark: Mark) -> Answer {
     Answer { release, permitted, mark, ceilings: ceilings(permitted).expect("a speed within its span") }
 }
 
-/// Numbers that look random and are the same in every run (Marsaglia's xorshift).
-struct Numbers(u64);
-
 impl Numbers {
-    fn below(&mut self, end: u32) -> u32 {
-        self.0 ^= self.0 << 13;
-        self.0 ^= self.0 >> 7;
-        self.0 ^= self.0 << 17;
-        ((self.0 >> 32) % u64::from(end)) as u32
-    }
-
     /// Below one of the ends, so that small numbers are not rare.
     fn below_any(&mut self, ends: &[u32]) -> u32 {
         let end = ends[self.below(ends.len() as u32) as usize];

@@ -1,10 +1,13 @@
 //! Document 01's figures and refusals for the step model and the ceilings, and the arithmetic beneath them.
 
+use numbers::Numbers;
 use reference::ceilings::ceilings;
 use reference::fraction::Fraction;
 use reference::natural::Natural;
 use reference::step::{row, step, Curve};
 use reference::train::{di, Train};
+
+mod numbers;
 
 /// Document 01's "EP": passenger, electropneumatic brake working, BW 100.
 const EP: Train = Train { freight: false, electropneumatic: true, braked_weight: 100, length: 200, top_speed: 100 };
@@ -19,17 +22,7 @@ fn fraction(numerator: i64, denominator: u64) -> Fraction {
     Fraction::from((numerator, denominator))
 }
 
-/// Numbers that look random and are the same in every run (Marsaglia's xorshift).
-struct Numbers(u64);
-
 impl Numbers {
-    fn next(&mut self) -> u64 {
-        self.0 ^= self.0 << 13;
-        self.0 ^= self.0 >> 7;
-        self.0 ^= self.0 << 17;
-        self.0
-    }
-
     /// Of 0 to `most` limbs; every other limb is 0, full or a lone bit, where carries and borrows run far.
     fn natural(&mut self, most: u64) -> Natural {
         let count = self.next() % (most + 1);

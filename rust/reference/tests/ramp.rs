@@ -1,9 +1,12 @@
 //! Document 01's figures, refusals and promise for the ramp, and the closed forms of document 000, section 5.1.
 
+use numbers::Numbers;
 use reference::fraction::Fraction;
 use reference::ramp::{greatest_place, keeps_promise, motion, ramp, Motion, Phase, Stop};
 use reference::train::dr;
 use reference::units::millimetres;
+
+mod numbers;
 
 /// BW, gradient, V, TM and TR as `ramp` takes them.
 type Inputs = (u32, i32, u32, u32, u32);
@@ -32,17 +35,7 @@ fn kept((braked_weight, gradient, v, tm, tr): Inputs, distance: u32, moment: u32
     keeps_promise(braked_weight, gradient, v, tm, tr, distance, moment)
 }
 
-/// Numbers that look random and are the same in every run (Marsaglia's xorshift).
-struct Numbers(u64);
-
 impl Numbers {
-    fn below(&mut self, end: u32) -> u32 {
-        self.0 ^= self.0 << 13;
-        self.0 ^= self.0 >> 7;
-        self.0 ^= self.0 << 17;
-        ((self.0 >> 32) % u64::from(end)) as u32
-    }
-
     /// Within their spans; low speeds and whole spans take turns, so that no phase of the stop is rare.
     fn inputs(&mut self) -> Inputs {
         let braked_weight = 45 + 5 * self.below(24);
