@@ -46,11 +46,10 @@ fn stops_within(k: Coefficients, o: Overrun, overlap: Metre) -> bool
 }
 
 // The last speed of the climb: 100 km/h, or the top speed where that is lower.
-fn highest(top: Kmh) -> u32
-    ensures { λ r. ⌜ r ≡ min 100 (top .0) ⌝ }
+fn highest(top: Kmh) -> Kmh
+    ensures { λ r. ⌜ r .0 ≡ min 100 (top .0) ⌝ }
 {
-    let fast = top.0;
-    if fast < 100 { fast } else { 100 }
+    if top.0 < 100 { top } else { Kmh(100) }
 }
 
 // The climb from 1 km/h.
@@ -58,7 +57,8 @@ fn last_stopping(k: Coefficients, o: Overrun, overlap: Metre, top: Kmh) -> Kmh
     requires { ⌜ Within k × (firstOf (rampRefusals k (atSpeed o 1)) ≡ 0) ⌝ }
     ensures { λ r. ⌜ r .0 ≡ climb (stopsWithin k o overlap) 0 (min 100 (top .0)) ⌝ }
 {
-    let end = highest(top);
+    let last = highest(top);
+    let end = last.0;
     let mut v: u32 = 0;
     let best = loop {
         if v >= end {
