@@ -4,8 +4,7 @@ use mathlib.Core.Bool.{Bool, true, false, not, cond}
 use mathlib.Core.List.{List, _++_}
 use Prim.Native.Nat.{ℕ, _<_}
 use native.Mathlib.Omega.{arith}
-use native.Mathlib.Nat.{le-refl}
-use borrow.Author.Tests.{le-ltb, leb-true, ltb-false, ne-eqb}
+use borrow.Author.Tests.{le-ltb, ne-eqb}
 use lib.Dec.{lit<}
 use Rattle.train.specs.declared.Kmh.{Kmh}
 use Rattle.train.specs.declared.Metre.{Metre}
@@ -15,10 +14,8 @@ use Rattle.train.specs.declared.Coefficients.{Coefficients}
 use Rattle.train.specs.Units.{kmh}
 use Rattle.train.specs.Coefficients.{Within}
 use Rattle.train.specs.Refusal.{firstOf, trainRefusals}
-use Rattle.train.proofs.Refusals.{Rising, rising-before, train-rising, first-after, first-before, none-holds}
+use Rattle.train.proofs.Refusals.{Rising, rising-before, train-rising, first-after, first-before}
 use Rattle.braking.specs.Braking.{strong}
-use Rattle.braking.proofs.Exact.{strong-is}
-use Rattle.braking.proofs.Coursed.{course}
 use Rattle.ceilings.specs.Ceilings.{limitsOf}
 use Rattle.ceilings.proofs.Agrees.{as-printed}
 use Rattle.ramp.specs.Answer.{timeRefusals}
@@ -32,11 +29,10 @@ use Rattle.climb.specs.Release.{releaseOf, weakPast}
 use Rattle.climb.specs.Permitted.{onCurve, onRelease, permittedOf, markOf}
 use Rattle.climb.specs.Find.{Steady, Permits}
 use Rattle.query.specs.declared.Answer.{Answer}
-use Rattle.query.specs.Demand.{pastAt, Demand}
+use Rattle.query.specs.Demand.{pastAt}
 use Rattle.query.specs.Answer.{refused, answered, release, brakeRefusals, accepted, inputs, wayTo, queryRefusals, answerOf, QueryAnswers}
-use Rattle.query.specs.Begin.{Fit, FitAhead, Starts, answerAt, answerOn}
-use Rattle.query.proofs.Creep.{places, low, is-safe, is-tight}
-use Rattle.query.proofs.Marks.{distances, is-marked}
+use Rattle.query.specs.Begin.{Fit, Starts, answerAt, answerOn}
+use Rattle.query.proofs.Third.{fit-ahead, kept}
 
 -- the refusals go by rising numbers, so the lowest that applies is the answer (the train's `lowest` and `applies`)
 pub query-rising : (k : Coefficients) (t : Train) (tm tr : ℕ) (s : List ℕ) (signal head : ℕ) → Rising 1 (queryRefusals k t tm tr s signal head)
@@ -44,37 +40,6 @@ query-rising k t tm tr s signal head = (tt, (tt, (tt, (tt, (tt, (tt, (tt, (tt, (
 
 pub times-rising : (tm tr : ℕ) → Rising 1 (timeRefusals tm tr)
 times-rising tm tr = (tt, (tt, (tt, tt)))
-
-module _ (k : Coefficients) (t : Train) (tm tr : ℕ) (w : Way) (f : Fit t tm tr w) (within : Within k) where
-  -- what the climb to the permitted speed asks for
-  pub fit-ahead : FitAhead t (w .ahead) (release k t tm tr w)
-  fit-ahead =
-      let n = none-holds 0 (trainRefusals t) (train-rising t) (f .train) in
-      let l = low t tm tr w f k within in
-      record {
-        weight = ltb-false _ _ (n .1 .0);
-        length = ltb-false _ _ (n .1 .1 .1 .0);
-        gradient = f .ahead;
-        speeds = omega arith;
-        top = ltb-false _ _ (n .1 .1 .1 .1 .1 .0);
-      }
-
-  module _ (steady : Steady k) (past : weakPast k (pastAt t tm tr w 1) (w .overlap) ≡ false) (ahead : strong k t (w .ahead) (release k t tm tr w) (release k t tm tr w) ≡ true) where
-    abbrev R : ℕ
-    R = release k t tm tr w .0
-
-    -- the third demand
-    pub kept : Demand k t tm tr w R (permittedOf k t (w .ahead) (kmh R) (w .distance)) (markOf k t (w .ahead) (kmh R) (w .distance))
-    kept =
-        let a = fit-ahead in
-        let (c, is) = course k t (w .ahead) within (a .weight) (a .length) (a .gradient) in
-        let e = leb-true _ _ (strong-is k t (w .ahead) c is (kmh R) (kmh R) (le-refl R) ∙ ahead) in
-        record {
-          numbers = record { places = places t tm tr w f k; distances = distances k within steady t tm tr w R c is e (a .speeds) };
-          safe = is-safe t tm tr w f k within past;
-          tight = is-tight t tm tr w f k within past;
-          marked = is-marked k within steady t tm tr w R c is e (a .speeds);
-        }
 
 -- the steps of the code
 module _ (k : Coefficients) (t : Train) (g : Gradient) (d : Metre) (v0 : Kmh) where

@@ -1,4 +1,5 @@
 mod Creep
 mod Marks
+pub mod Third
 mod Answers
 pub mod Agreement

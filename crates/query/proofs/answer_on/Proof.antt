@@ -5,7 +5,8 @@ use Rattle.climb.specs.declared.release.Release.the-variants.{Weak, Speed}
 use Rattle.climb.specs.Find.{Releases}
 use Rattle.query.specs.Demand.{pastAt}
 use Rattle.query.proofs.Creep.{inputs-past}
-use Rattle.query.proofs.Answers.{fit-ahead, too-weak-past, with-release}
+use Rattle.query.proofs.Third.{fit-ahead}
+use Rattle.query.proofs.Answers.{too-weak-past, with-release}
 use Rattle.query.proofs.answer_on.Statement.{statement}
 use Rattle.query.proofs.answer_on.Tie as tie
 
