@@ -1,4 +1,4 @@
--- Document 01, "Approach": the permitted speed and the mark.
+-- Document 01, "Approach": the permitted speed, at which a train may come up to the signal, and the mark, which says what holds it.
 use mathlib.Core.Bool.{Bool, cond}
 use Prim.Native.Nat.{ℕ, _*_, _-_}
 use lib.Dec.{leb}
@@ -12,7 +12,7 @@ use Rattle.curve.specs.declared.Curve.the-variants.{P}
 use Rattle.curve.specs.Step.{distance}
 use Rattle.climb.specs.Climb.{climb}
 
--- the mark's numbers
+-- the mark's numbers: "curve", the P distance to the release speed; "release", the release speed itself
 abbrev pub onCurve : ℕ
 onCurve = 1
 

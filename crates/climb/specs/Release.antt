@@ -1,4 +1,4 @@
--- Document 01, "Approach": the release speed.
+-- Document 01, "Approach": the release speed, at which a train may creep past a closed signal: braked there, it stops within the overlap.
 use mathlib.Core.Bool.{Bool, not, _&&_, cond}
 use Prim.Native.Nat.{ℕ, _*_, min}
 use lib.Dec.{leb, ltb, eqb}
