@@ -1,4 +1,4 @@
-// The release speed: the highest at which the train, braked at the closed signal, stops within the overlap.
+// The release speed: the last before the first at which the train, braked at the closed signal, gets beyond the overlap.
 ghost use mathlib.Core.Path.{_≡_};
 ghost use Prim.Native.Nat.{min};
 ghost use Rattle.train.specs.Units.{kmh};

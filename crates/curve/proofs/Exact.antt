@@ -153,7 +153,7 @@ module _ (k : Coefficients) (t : Train) (g : Gradient) (c : Course) (is : IsCour
         let e : n * unit ≡ unit * n = mul-comm n unit in
         rw (← distance-is x) (leb-agree _ _ _ _ (λ h. r .1 (rw e h)) (λ h. lt-of-not-le (λ i. not-le-of-lt h (rw e at (r .0 i)))))
 
-    -- and its exact value is so many metres
+    -- the same of the exact value, in metres
     pub fits-is : (x : Curve) (d : Metre) → leb (sumAt x c (v .0) (v0 .0)) (81 * 10 ^ 20 * a * (1000 * d .0)) ≡ leq (formula k t g v v0 x) (whole (d .0))
     fits-is x d =
         let e : 81 * 10 ^ 20 * a * (1000 * d .0) ≡ d .0 * (81 * 10 ^ 23 * a) =
