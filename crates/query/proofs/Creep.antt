@@ -68,31 +68,28 @@ module _ (t : Train) (tm tr : ℕ) (w : Way) (f : Fit t tm tr w) where
     climbed : 0 < w .overlap .0 → Highest (stopsWithin k (past 1) (w .overlap)) 0 least R
     climbed h = rw (← release-is k (past 1) (w .overlap) h (t .top)) (highest (stopsWithin k (past 1) (w .overlap)) 0 least)
 
+    -- without an overlap it is 0
+    none : w .overlap .0 ≤ 0 → 0 ≡ R
+    none h = no-overlap k (past 1) (w .overlap) (t .top) (omega arith) .1
+
     -- at most the lower of 100 and the top speed
     pub low : R ≤ least
-    low =
-        ⊎-elim (λ h. omega (arith, climbed h .to)) (λ h. let e = no-overlap k (past 1) (w .overlap) (t .top) (omega arith) .1 in omega arith)
-        (below 0 (w .overlap .0))
+    low = ⊎-elim (λ h. omega (arith, climbed h .to)) (λ h. let e = none h in omega arith) (below 0 (w .overlap .0))
 
     some-overlap : 1 ≤ R → 0 < w .overlap .0
-    some-overlap l =
-        ⊎-elim (λ h. h) (λ h. absurd (let e = no-overlap k (past 1) (w .overlap) (t .top) (omega arith) .1 in omega arith)) (below 0 (w .overlap .0))
+    some-overlap l = ⊎-elim (λ h. h) (λ h. absurd (let e = none h in omega arith)) (below 0 (w .overlap .0))
 
     module _ (strong : weakPast k (past 1) (w .overlap) ≡ false) where
       promise : 0 < w .overlap .0 → (v : ℕ) → 1 ≤ v → v ≤ 100 → Promise k (past v) leeway (distance k (past v)) (moment k (past v))
       promise h v a b = always k (past v) (any-speed k (past 1) v a b ∙ accepted-past k (past 1) (w .overlap) h inputs-past strong) within
 
       pub is-safe : Safe k t tm tr w R
-      is-safe = record {
-        safe = λ v p q a b l.
-            let h = some-overlap (omega arith) in
-            let s = leb-true _ _ (climbed h .each v a b) in
-            inside k (past v) _ _ (promise h v a (omega (arith, low))) (w .overlap .0) s p q l;
-      }
+      is-safe v p q a b l =
+          let h = some-overlap (omega arith) in
+          let s = leb-true _ _ (climbed h .each v a b) in
+          inside k (past v) _ _ (promise h v a (omega (arith, low))) (w .overlap .0) s p q l
 
       pub is-tight : Tight k t tm tr w R
-      is-tight = record {
-        tight = λ h a b.
-            let s = leb-false _ _ (ap (stopsWithin k (past 1) (w .overlap)) (add-one R) ∙ climbed h .next (omega arith)) in
-            (moment k (past (R + 1)), (1000, (lit< tt, outside k (past (R + 1)) _ _ (promise h (R + 1) (omega arith) a) (w .overlap .0) s)));
-      }
+      is-tight h a b =
+          let s = leb-false _ _ (ap (stopsWithin k (past 1) (w .overlap)) (add-one R) ∙ climbed h .next (omega arith)) in
+          (moment k (past (R + 1)), (1000, (lit< tt, outside k (past (R + 1)) _ _ (promise h (R + 1) (omega arith) a) (w .overlap .0) s)))

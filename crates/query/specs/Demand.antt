@@ -39,13 +39,13 @@ module _ (k : Coefficients) (t : Train) (tm tr : ℕ) (w : Way) where
       pub distances : (v : ℕ) → release ≤ v → 0 < exactP v .over
 
     -- at every whole speed from 1 km/h to the release speed, whatever the moment, the train is not beyond the overlap's end
-    pub record Safe : Type 0 where
-      pub safe : (v p q : ℕ) → 1 ≤ v → v ≤ release → 0 < q → place v p q ≤q end
+    abbrev pub Safe : Type 0
+    Safe = (v p q : ℕ) → 1 ≤ v → v ≤ release → 0 < q → place v p q ≤q end
 
     -- one km/h more, unless over 100, over the top speed or with an overlap of no length:
     -- some moment finds it less than 5 mm short of that end, or past it
-    pub record Tight : Type 0 where
-      pub tight : 0 < w .overlap .0 → release + 1 ≤ 100 → release + 1 ≤ t .top .0 → (p : ℕ) × ((q : ℕ) × ((0 < q) × (end -q (leeway over 1000) <q place (release + 1) p q)))
+    abbrev pub Tight : Type 0
+    Tight = 0 < w .overlap .0 → release + 1 ≤ 100 → release + 1 ≤ t .top .0 → (p : ℕ) × ((q : ℕ) × ((0 < q) × (end -q (leeway over 1000) <q place (release + 1) p q)))
 
     -- marked "release" exactly when the release speed's own P is over the distance; the permitted speed is then the release speed.
     -- Otherwise marked "curve": of the speeds from the release speed to the top speed, the permitted speed is the highest up to

@@ -28,7 +28,8 @@ fn ahead(s: &[u8], head: Metre, place: Metre) -> Gradient
     requires { ⌜ (accepted (now s) ≡ true) × (head .0 ≤ place .0) × (place .0 < lineOf (now s) .end) ⌝ }
     ensures { λ r. ⌜ Slope (leastOver (lineOf (now (s .entry))) (head .0) (place .0 + 1)) r ⌝ }
 {
-    span::least(s, head, Metre(place.0 + 1))
+    let end = place.0 + 1;
+    span::least(s, head, Metre(end))
 }
 
 // The least gradient from the signal up to but not including the overlap's end.

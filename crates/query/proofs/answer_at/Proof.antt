@@ -1,8 +1,10 @@
 -- `answer_at`: what the climb to the permitted speed found makes the answer.
 use borrow.Author.Needs.{needs}
-use mathlib.Core.Path.{_∙_}
+use mathlib.Core.Path.{_≡_, _∙_}
 use Rattle.climb.specs.declared.permitted.Permitted.the-variants.{Weak, Release, Curve}
+use Rattle.climb.specs.Permitted.{onCurve, onRelease}
 use Rattle.climb.specs.Find.{Permits}
+use Rattle.query.specs.Answer.{refused, answered}
 use Rattle.query.proofs.Answers.{too-weak, by-release, by-curve}
 use Rattle.query.proofs.answer_at.Statement.{statement}
 use Rattle.query.proofs.answer_at.Tie as tie
@@ -33,14 +35,16 @@ returns c =
     let s = c .before .before .before in
     let a = s .before .args in
     let h : Permits (a .k) (a .train) (a .ahead) (a .release) (a .distance) Weak = rw (c .before .enum-told .given .1) at (s .speed .ensures) in
-    c .refused-with .ensures ∙ too-weak (a .k) (a .train) (a .ahead) (a .distance) (a .release) h
+    let e : c .refused-with .result ≡ refused 10 = c .refused-with .ensures in
+    e ∙ too-weak (a .k) (a .train) (a .ahead) (a .distance) (a .release) h
 
 returns-2 : tie.Need-returns-2
 returns-2 c =
     let s = c .before .before .before in
     let a = s .before .args in
     let h : Permits (a .k) (a .train) (a .ahead) (a .release) (a .distance) Release = rw (c .before .enum-told2 .given .1) at (s .speed .ensures) in
-    c .given .ensures ∙ by-release (a .k) (a .train) (a .ahead) (a .distance) (a .release) h
+    let e : c .given .result ≡ answered (a .release) (a .release) onRelease = c .given .ensures in
+    e ∙ by-release (a .k) (a .train) (a .ahead) (a .distance) (a .release) h
 
 returns-3 : tie.Need-returns-3
 returns-3 c =
@@ -49,7 +53,8 @@ returns-3 c =
     let a = s .before .args in
     let v = p .permitted .given .0 .0 in
     let h : Permits (a .k) (a .train) (a .ahead) (a .release) (a .distance) (Curve v) = rw (p .permitted .given .1) at (s .speed .ensures) in
-    c .given2 .ensures ∙ by-curve (a .k) (a .train) (a .ahead) (a .distance) (a .release) v h
+    let e : c .given2 .result ≡ answered (a .release) v onCurve = c .given2 .ensures in
+    e ∙ by-curve (a .k) (a .train) (a .ahead) (a .distance) (a .release) v h
 
 pub answer-at-spec : {M : Type 1} → statement M
 answer-at-spec =

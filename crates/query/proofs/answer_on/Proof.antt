@@ -1,9 +1,10 @@
 -- `answer_on`: what the climb to the release speed found makes the answer.
 use borrow.Author.Needs.{needs}
-use mathlib.Core.Path.{_∙_}
+use mathlib.Core.Path.{_≡_, _∙_}
 use Rattle.climb.specs.declared.release.Release.the-variants.{Weak, Speed}
 use Rattle.climb.specs.Find.{Releases}
 use Rattle.query.specs.Demand.{pastAt}
+use Rattle.query.specs.Begin.{answerAt}
 use Rattle.query.proofs.Creep.{inputs-past}
 use Rattle.query.proofs.Third.{fit-ahead}
 use Rattle.query.proofs.Answers.{too-weak-past, with-release}
@@ -44,7 +45,9 @@ returns-2 : tie.Need-returns-2
 returns-2 c =
     let f = c .before in
     let a = f .before .before .before .before .before .before .before .before .before .args in
-    c .answer-at .ensures ∙ with-release (a .k) (a .train) (a .tm) (a .tr) (a .w) _ (found f)
+    let v = f .before .release .given .0 .0 in
+    let e : c .answer-at .result ≡ answerAt (a .k) (a .train) (a .w .ahead) (a .w .distance) v = c .answer-at .ensures in
+    e ∙ with-release (a .k) (a .train) (a .tm) (a .tr) (a .w) v (found f)
 
 pub answer-on-spec : {M : Type 1} → statement M
 answer-on-spec =

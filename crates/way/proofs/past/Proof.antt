@@ -1,8 +1,10 @@
 -- `past`: the span is the overlap.
 use denote.Ref.{now}
 use native.Mathlib.Omega.{arith}
+use Prim.Native.Nat.{_+_}
 use Rattle.sheet.specs.Sheet.{lineOf}
 use Rattle.sheet.proofs.Kept.{headed-of}
+use Rattle.span.specs.Least.{LeastOver}
 use Rattle.way.proofs.Ways.{no-overlap, some-overlap}
 use Rattle.way.proofs.past.Statement.{statement}
 use Rattle.way.proofs.past.Tie as tie
@@ -17,7 +19,11 @@ least-requires : tie.Need-least-requires
 least-requires c κs = let s = c .before .before in let h = c .if1 .left in (s .pre .0, omega arith, omega (arith, s .pre .1))
 
 returns-2 : tie.Need-returns-2
-returns-2 c = let s = c .before .before .before in some-overlap (lineOf (now (s .args .s))) _ _ _ (headed-of _ (s .pre .0) .1) (c .before .if1 .left) (c .least .ensures)
+returns-2 c =
+    let s = c .before .before .before in
+    let l = lineOf (now (s .args .s)) in
+    let e : LeastOver l (s .args .place .0) (s .args .place .0 + s .args .overlap .0) (c .least .result) = c .least .ensures in
+    some-overlap l (s .args .place .0) (s .args .overlap .0) _ (headed-of _ (s .pre .0) .1) (c .before .if1 .left) e
 
 pub past-spec : {M : Type 1} → statement M
 past-spec = tie.close (tie.spec returns add-t7 least-requires returns-2)

@@ -4,7 +4,7 @@ use borrow.Author.Tests.{leb-true, not-true, not-false}
 use mathlib.Core.Bool.{true}
 use mathlib.Core.Path.{_≡_, sym, _∙_}
 use native.Mathlib.Nat.{le-refl, le-trans}
-use Rattle.braking.specs.Plan.{Near, Enough}
+use Rattle.braking.specs.Plan.{strongOf, Near, Enough}
 use Rattle.braking.specs.Braking.{strong}
 use Rattle.braking.proofs.Exact.{strong-is}
 use Rattle.climb.specs.Permitted.{fits}
@@ -18,7 +18,8 @@ near c = let s = c .before .before in record { high = le-trans (s .pre .5) (s .p
 strong-says : (c : tie.After-is-strong) → let a = c .before .before .before .args in c .is-strong .result ≡ strong (a .k) (a .train) (a .g) (a .v0) (a .v0)
 strong-says c =
     let a = c .before .before .before .args in
-    c .is-strong .ensures ∙ strong-is (a .k) (a .train) (a .g) (c .before .course-of .result) (c .before .course-of .ensures) (a .v0) (a .v0) (le-refl _)
+    let e : c .is-strong .result ≡ strongOf (c .before .course-of .result) (a .v0 .0) (a .v0 .0) = c .is-strong .ensures in
+    e ∙ strong-is (a .k) (a .train) (a .g) (c .before .course-of .result) (c .before .course-of .ensures) (a .v0) (a .v0) (le-refl _)
 
 enough : (c : tie.Else1) → let a = c .before .before .before .before .args in Enough (c .before .before .course-of .result) (a .v0 .0) (a .v0 .0)
 enough c = leb-true _ _ (sym (c .before .is-strong .ensures) ∙ not-false _ (c .if1 .left))

@@ -2,7 +2,7 @@
 use borrow.Author.Needs.{needs}
 use borrow.Author.Tests.{not-true, not-false}
 use mathlib.Core.Path.{_≡_, sym, ap, _∙_}
-use Prim.Native.Nat.{_+_, _-_, _≤_}
+use Prim.Native.Nat.{_+_, _-_, _≤_, _<_}
 use native.Mathlib.Omega.{arith}
 use Rattle.climb.specs.Climb.{climb}
 use Rattle.climb.specs.Release.{stopsWithin}
@@ -47,7 +47,7 @@ loop-again : tie.Need-loop-again Inv-loop μ-loop
 loop-again c =
     let l = c .before .before .before .before in
     let a = l .before .before .args in
-    let h = c .before .before .before .if1 .left in
+    let h : l .loop .v < l .before .highest .result .0 = c .before .before .before .if1 .left in
     (omega arith, goes-on (stopsWithin (a .k) (a .o) (a .overlap)) (l .loop .v) _ h (tested (c .before) ∙ not-false _ (c .if2 .left)) ∙ l .loop .inv .1)
 
 returns : tie.Need-returns Inv-loop μ-loop
