@@ -13,5 +13,6 @@ pub mod natural;
 pub mod ramp;
 pub mod sheet;
 pub mod step;
+pub mod tables;
 pub mod train;
 pub mod units;

@@ -1,0 +1,65 @@
+// Prints tables of every operation over a grid of inputs: a line for each input, the answer behind its `=`. What is stored as
+// its output comes from the Rust reference, so each check holds the library to the papers read a second time.
+mod grid;
+mod models;
+mod sheets;
+mod text;
+
+use libc::STDOUT_FILENO;
+
+// A line of a table, by its number in the table.
+fn print_line(table: u32, k: usize) {
+    match table {
+        0 => models::ceilings_line(k),
+        1 => models::step_line(k),
+        2 => models::row_line(k),
+        3 => models::ramp_line(k),
+        4 => sheets::sheet_line(k),
+        _ => sheets::query_line(k),
+    }
+}
+
+fn print_table(table: u32, lines: usize) {
+    let mut k: usize = 0;
+    while k < lines {
+        print_line(table, k);
+        k += 1;
+    }
+}
+
+// Each table has as many lines as its grid has places.
+fn main() {
+    io::write_all(STDOUT_FILENO, b"# ceilings V = refusal W SBI EBI\n");
+    print_table(0, 332);
+    io::write_all(
+        STDOUT_FILENO,
+        b"# step freight EP BW L top V V0 i = refusal EBI SBI W P\n",
+    );
+    print_table(1, 9900);
+    io::write_all(
+        STDOUT_FILENO,
+        b"# row curve freight EP BW L top V0 i = refusal length distances\n",
+    );
+    print_table(2, 96);
+    io::write_all(
+        STDOUT_FILENO,
+        b"# ramp BW i V TM TR = refusal distance moment\n",
+    );
+    print_table(3, 2376);
+    io::write_all(STDOUT_FILENO, b"# sheet start i place overlap end number");
+    io::write_all(
+        STDOUT_FILENO,
+        b" = refusal length ; refusal start i ; refusal place overlap",
+    );
+    io::write_all(STDOUT_FILENO, b" ; refusal end start i next\n");
+    print_table(4, 4320);
+    io::write_all(
+        STDOUT_FILENO,
+        b"# query freight EP BW L top TM TR i overlap signal head",
+    );
+    io::write_all(
+        STDOUT_FILENO,
+        b" = refusal release permitted mark W SBI EBI\n",
+    );
+    print_table(5, 8640);
+}

@@ -1,0 +1,96 @@
+// Lines of the ceilings, the step model and the ramp.
+use super::grid;
+use super::text;
+use libc::STDOUT_FILENO;
+use train::Kmh;
+
+const ROW_GRADIENTS: [i32; 3] = [-20, 0, 10];
+
+pub fn ceilings_line(k: usize) {
+    let v = (k % 332) as u32;
+    let limits = ceilings::ceilings(Kmh(v));
+    let w = limits.w;
+    let sbi = limits.sbi;
+    let ebi = limits.ebi;
+    io::write_all(STDOUT_FILENO, b"ceilings");
+    text::field(v);
+    text::equals();
+    text::field(limits.refusal);
+    text::field(w.0);
+    text::field(sbi.0);
+    text::field(ebi.0);
+    text::end();
+}
+
+pub fn step_line(k: usize) {
+    let v = grid::speed(k);
+    let v0 = grid::target(k);
+    let i = grid::gradient(k / 15);
+    let train = grid::train(k / 2475, grid::weight(k / 825), grid::length(k / 165), 160);
+    let d = step::step(train, Kmh(v), Kmh(v0), i);
+    let ebi = d.ebi;
+    let sbi = d.sbi;
+    let w = d.w;
+    let p = d.p;
+    io::write_all(STDOUT_FILENO, b"step");
+    text::train(train);
+    text::field(v);
+    text::field(v0);
+    text::gradient(i);
+    text::equals();
+    text::field(d.refusal);
+    text::field(ebi.0);
+    text::field(sbi.0);
+    text::field(w.0);
+    text::field(p.0);
+    text::end();
+}
+
+fn places(row: &[u32]) {
+    let mut k: usize = 0;
+    while k < row.len() {
+        text::field(row[k]);
+        k += 1;
+    }
+}
+
+// A row from 0 or 60 km/h to 330. What it does not need of the lent list stays as it was, 0.
+pub fn row_line(k: usize) {
+    let number = k % 4;
+    let v0 = (60 * (k / 4 % 2)) as u32;
+    let i = ROW_GRADIENTS[k / 8 % 3];
+    let train = grid::train(k / 24, 100, 954, 330);
+    let mut row = [0u32; 331];
+    let written = step::row(grid::curve(number), train, Kmh(v0), i, &mut row);
+    io::write_all(STDOUT_FILENO, b"row");
+    text::field(number as u32);
+    text::train(train);
+    text::field(v0);
+    text::gradient(i);
+    text::equals();
+    text::field(written.refusal);
+    text::field(written.length);
+    places(&row);
+    text::end();
+}
+
+pub fn ramp_line(k: usize) {
+    let tm = grid::dead_time(k);
+    let tr = grid::rise_time(k);
+    let v = grid::creep(k / 6);
+    let i = grid::gradient(k / 72);
+    let weight = grid::weight(k / 792);
+    let stop = ramp::ramp(weight, i, Kmh(v), tm, tr);
+    let distance = stop.distance;
+    io::write_all(STDOUT_FILENO, b"ramp");
+    text::field(weight);
+    text::gradient(i);
+    text::field(v);
+    text::field(tm);
+    text::field(tr);
+    text::equals();
+    text::field(stop.refusal);
+    text::field(distance.0);
+    text::field(stop.moment);
+    text::end();
+}
