@@ -1,20 +1,23 @@
-# example: proves what has changed and runs the main job; bench: times it beside Rust; gate: everything from nothing, as CI does.
+# example: proves what has changed and runs the main job; distances, curves: more of what the library gives; bench: times it
+# beside Rust; tables: the stored output of crates/tables, from the reference; gate: everything from nothing, as CI does.
 cargo := PATH="$$PATH:$$HOME/.cargo/bin" cargo
-run := $(cargo) run --release --offline --manifest-path rust/Cargo.toml --bin
+run := $(cargo) run --release --offline --manifest-path rust/Cargo.toml
 
 example:
 	rt check
 	target/bin/approach_sheet < crates/approach_sheet/stdin
 
 distances: archives
-	$(run) distances
+	$(run) --example distances
+
+curves: archives
+	$(run) --example curves > target/curves.svg
 
 bench: archives
-	$(run) query
-	$(run) step
-	$(run) ramp
-	$(run) sheet
-	$(run) wide
+	$(run) --bin bench
+
+tables:
+	$(run) --bin tables > crates/tables/stdout
 
 archives:
 	rt check
@@ -24,4 +27,4 @@ archives:
 gate:
 	bash .ci/run
 
-.PHONY: example distances bench archives gate
+.PHONY: example distances curves bench tables archives gate

@@ -1,13 +1,7 @@
-//! The proved calls, through their archives, beside the same whole-number plan in Rust with u128 limbs.
-pub mod inputs;
-pub mod library;
+//! What the benchmark compares: a peer of the library in Rust, and the proved calls on wide numbers.
 pub mod peer;
-pub mod proved;
-pub mod query;
-pub mod ramp;
-pub mod sheet;
-pub mod step;
-pub mod timing;
+pub mod wide_calls;
+pub mod wide_inputs;
 
 /// A number below 2^192: three digits of 64 bits, the least first.
 #[repr(C)]

@@ -1,7 +1,9 @@
 //! The proved wide numbers against schoolbook arithmetic in digits of 16 bits, and the peer against the proved ones.
-use bench::inputs::Random;
-use bench::proved::*;
-use bench::{peer, Wide};
+use bench::peer::wide as peer;
+use bench::wide_calls::*;
+use bench::wide_inputs::{factors, summands, wide, word};
+use bench::Wide;
+use inputs::Random;
 
 const ROUNDS: usize = 200_000;
 
@@ -71,7 +73,7 @@ fn check_quotient(n: Wide, d: Wide) {
 fn words_and_their_products() {
     let mut random = Random(1);
     for _ in 0..ROUNDS {
-        let (a, b) = (random.word(), random.word());
+        let (a, b) = (word(&mut random), word(&mut random));
         assert_eq!(digits(unsafe { wide_from_word(a) }), number(a));
         assert_eq!(digits(unsafe { wide_product(a, b) }), multiply(&number(a), &number(b)));
         assert_eq!(unsafe { wide_from_word(a) }, peer::from_word(a));
@@ -82,7 +84,7 @@ fn words_and_their_products() {
 fn products() {
     let mut random = Random(2);
     for _ in 0..ROUNDS {
-        let (w, m) = random.factors();
+        let (w, m) = factors(&mut random);
         let product = unsafe { wide_times(w, m) };
         assert_eq!(digits(product), multiply(&digits(w), &number(m)), "{w:?} * {m}");
         assert_eq!(product, peer::times(w, m));
@@ -93,7 +95,7 @@ fn products() {
 fn sums_differences_and_order() {
     let mut random = Random(3);
     for _ in 0..ROUNDS {
-        let (a, b) = random.summands();
+        let (a, b) = summands(&mut random);
         let sum = unsafe { wide_sum(a, b) };
         assert_eq!(digits(sum), add(&digits(a), &digits(b)), "{a:?} + {b:?}");
         assert_eq!(sum, peer::sum(a, b));
@@ -110,14 +112,14 @@ fn quotients() {
     let mut with_rest = [0; 160];
     for round in 0..ROUNDS {
         let bits = round % 160;
-        let mut d = random.wide(1 + bits as u32);
+        let mut d = wide(&mut random, 1 + bits as u32);
         if digits(d).is_empty() {
             d.low = 1;
         }
         let q = random.next() as u32 >> random.below(32);
         let whole = unsafe { wide_times(d, q as u64) };
         check_quotient(whole, d);
-        let rest = random.wide(1 + bits as u32);
+        let rest = wide(&mut random, 1 + bits as u32);
         if !digits(rest).is_empty() && unsafe { wide_at_most(rest, whole) && wide_at_most(rest, d) } {
             check_quotient(unsafe { wide_difference(whole, rest) }, d);
             with_rest[bits] += 1;

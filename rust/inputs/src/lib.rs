@@ -1,6 +1,5 @@
-//! Inputs that keep what the contracts ask: fixed pseudo-random streams, with 0, the largest word and short words among them.
-use crate::library::{self, Answer, Line, Train, Written};
-use crate::{peer, query, Wide};
+//! Inputs for tests and benchmarks, the same in every run: trains, lines and queries, mostly such as are accepted.
+use approach::{query, sheet, Approach, Brake, Hundredth, Kmh, Metre, Refusal, Times, Train};
 use std::collections::BTreeSet;
 
 /// Document 01's example of a sheet, and the train of the program that prints it.
@@ -8,8 +7,24 @@ pub const EXAMPLE: [u8; 38] = [
     0x01, 0x00, 0x02, 0x00, 0x14, 0x00, 0x00, 0x00, 0x1A, 0x00, 0x00, 0x00, 0x26, 0x00, 0x00, 0x00, 0xD0, 0x07, 0x00,
     0x00, 0x00, 0x00, 0x00, 0x00, 0x00, 0x00, 0x00, 0x00, 0x00, 0x00, 0x78, 0x00, 0x21, 0x04, 0x00, 0x00, 0x00, 0x00,
 ];
-pub const EXAMPLE_TRAIN: Train =
-    Train { freight: false, electropneumatic: true, braked_weight: 100, length: 200, top_speed: 100 };
+pub const EXAMPLE_TRAIN: Train = Train {
+    brake: Brake::Passenger,
+    electropneumatic: true,
+    braked_weight: 100,
+    length: Metre(200),
+    top_speed: Kmh(100),
+};
+
+/// The same train for the reference.
+pub fn on_paper(train: Train) -> reference::train::Train {
+    let Train { brake, electropneumatic, braked_weight, length: Metre(length), top_speed: Kmh(top_speed) } = train;
+    reference::train::Train { freight: brake == Brake::Freight, electropneumatic, braked_weight, length, top_speed }
+}
+
+/// TM and TR in hundredths of a second.
+pub fn times(tm: u32, tr: u32) -> Times {
+    Times { dead: Hundredth(tm), rise: Hundredth(tr) }
+}
 
 /// What an approach query is asked.
 #[derive(Clone, Debug)]
@@ -28,22 +43,49 @@ impl Query {
         Query { train: EXAMPLE_TRAIN, tm: 200, tr: 400, sheet, signal: 0, head: 0 }
     }
 
-    pub fn proved(&self) -> Answer {
-        library::query(self.train, self.tm, self.tr, &self.sheet, self.signal, self.head)
+    pub fn answer(&self) -> Result<Approach, Refusal> {
+        self.on(&self.sheet)
     }
 
-    pub fn peer(&self) -> Answer {
-        query::query(self.train, self.tm, self.tr, &self.sheet, self.signal, self.head)
+    /// The same query of another sheet.
+    pub fn on(&self, sheet: &[u8]) -> Result<Approach, Refusal> {
+        query(self.train, times(self.tm, self.tr), sheet, self.signal, Metre(self.head))
     }
 }
 
-/// The library's sheet of a line that keeps every rule.
-pub fn written(line: &Line) -> Vec<u8> {
-    // No zeros, so that a byte that is not written shows.
-    let mut sheet = vec![0xa5; 20 + 6 * (line.starts.len() + line.places.len())];
-    let written = library::sheet_write(line, &mut sheet);
-    assert_eq!(written, Written { refusal: 0, length: sheet.len() as u32 }, "{line:?}");
-    sheet
+/// What a sheet is written from: starts, places, overlaps and the end in metres, gradients in per mille.
+#[derive(Clone, Debug, PartialEq, Eq)]
+pub struct Line {
+    pub starts: Vec<u32>,
+    pub gradients: Vec<i16>,
+    pub places: Vec<u32>,
+    pub overlaps: Vec<u16>,
+    pub end: u32,
+}
+
+impl Line {
+    /// How many bytes its sheet takes.
+    pub fn length(&self) -> usize {
+        sheet::length(self.starts.len(), self.places.len())
+    }
+
+    /// By the library.
+    pub fn write<'a>(&self, buffer: &'a mut [u8]) -> Result<&'a [u8], Refusal> {
+        let metres = |numbers: &[u32]| numbers.iter().copied().map(Metre).collect::<Vec<_>>();
+        let (starts, places) = (metres(&self.starts), metres(&self.places));
+        let (gradients, overlaps) = (&self.gradients, &self.overlaps);
+        sheet::write(
+            sheet::Lists { starts: &starts, gradients, places: &places, overlaps, end: Metre(self.end) },
+            buffer,
+        )
+    }
+
+    /// The library's sheet of a line that keeps every rule.
+    pub fn written(&self) -> Vec<u8> {
+        // No zeros, so that a byte that is not written shows.
+        let mut buffer = vec![0xa5; self.length()];
+        self.write(&mut buffer).expect("a line that keeps every rule").to_vec()
+    }
 }
 
 /// SplitMix64.
@@ -60,15 +102,6 @@ impl Random {
 
     pub fn below(&mut self, n: u64) -> u64 {
         self.next() % n
-    }
-
-    pub fn word(&mut self) -> u64 {
-        match self.below(8) {
-            0 => 0,
-            1 => u64::MAX,
-            2 | 3 => self.next() >> self.below(64),
-            _ => self.next(),
-        }
     }
 
     /// Mostly from `least` to `most`, both ends among them, and now and then what lies outside.
@@ -104,41 +137,12 @@ impl Random {
 
     pub fn train(&mut self) -> Train {
         Train {
-            freight: self.below(2) == 0,
+            brake: [Brake::Passenger, Brake::Freight][self.below(2) as usize],
             electropneumatic: self.below(2) == 0,
             braked_weight: self.braked_weight(),
-            length: self.near(0, 1000),
-            top_speed: self.near(1, 330),
+            length: Metre(self.near(0, 1000)),
+            top_speed: Kmh(self.near(1, 330)),
         }
-    }
-
-    /// A number of at most `bits` bits, 0 to 192.
-    pub fn wide(&mut self, bits: u32) -> Wide {
-        let mut part = |from: u32| match bits.saturating_sub(from) {
-            0 => 0,
-            left => self.word() >> (64 - left.min(64)),
-        };
-        Wide { low: part(0), mid: part(64), high: part(128) }
-    }
-
-    /// A number and a factor whose product is below 2^192.
-    pub fn factors(&mut self) -> (Wide, u64) {
-        let m = self.word();
-        (self.wide(128 + m.leading_zeros()), m)
-    }
-
-    /// Two numbers whose sum is below 2^192.
-    pub fn summands(&mut self) -> (Wide, Wide) {
-        (self.wide(191), self.wide(191))
-    }
-
-    /// A number and a divisor of just `bits` bits, 1 to 160, the least quotient not below being any of 32 bits.
-    pub fn dividend(&mut self, bits: u32) -> (Wide, Wide) {
-        let full = Wide { low: self.next(), mid: self.next(), high: self.next() };
-        let d = cut(full, bits);
-        let whole = peer::times(d, self.next() >> 32);
-        let rest = cut(Wide { low: self.next(), mid: self.next(), high: self.next() }, bits - 1);
-        (if peer::at_most(rest, whole) { peer::difference(whole, rest) } else { whole }, d)
     }
 
     /// `count` rising numbers below `end`, which is not below `count`.
@@ -202,14 +206,4 @@ impl Random {
         let overlaps = places.iter().map(|place| self.below_any(&[1, 20, 200, 1500]).min(end - place) as u16).collect();
         Line { starts, gradients, places, overlaps, end }
     }
-}
-
-/// Its lowest `bits` bits, the topmost of them set.
-fn cut(w: Wide, bits: u32) -> Wide {
-    let part = |word: u64, from: u32| match bits.saturating_sub(from) {
-        0 => 0,
-        left if left > 64 => word,
-        left => (word | 1 << 63) >> (64 - left),
-    };
-    Wide { low: part(w.low, 0), mid: part(w.mid, 64), high: part(w.high, 128) }
 }

@@ -1,7 +1,7 @@
 //! The approach query as one would write it in Rust where train and times are accepted: one pass over the sheet's bytes for its
 //! check, then two climbs over whole numbers. It stands behind a call that is not inlined, as the proved one does.
-use crate::library::{Answer, Train, CURVE, RELEASE};
-use crate::{ramp, sheet, step};
+use super::{ramp, sheet, step};
+use approach::raw::{Answer, Train, CURVE, RELEASE};
 use std::ops::RangeInclusive;
 
 /// The ramp's greatest speed in km/h.

@@ -1,7 +1,7 @@
 //! The ramp as one would write it in Rust for accepted inputs: the same whole numbers, with u128 for the place. It stands behind
 //! a call that is not inlined, as the proved one does.
-use crate::library::Stop;
-use crate::step::{nominal, slope, LEAST7};
+use super::step::{nominal, slope, LEAST7};
+use approach::raw::Stop;
 
 /// Some 17 minutes, by which every accepted train rolls back.
 const LONGEST: u64 = 1 << 20;

@@ -1,7 +1,8 @@
 //! The step model as one would write it in Rust for accepted inputs: the same whole numbers, u128 where they fit and three
 //! limbs where they do not. It stands behind a call that is not inlined, as the proved one does.
-use crate::library::{Curve, Distances, Train};
-use crate::{peer, Wide};
+use super::wide;
+use crate::Wide;
+use approach::raw::{Curve, Distances, Train};
 
 /// A speed of 1 km/h in m/s / (9·10¹⁵).
 const KMH: u64 = 2_500_000_000_000_000;
@@ -87,12 +88,12 @@ fn scaled(curve: Curve, c: Course, m: &Motion) -> Wide {
         Curve::P => (c.r8, 300_000_000),
     };
     let way = (c.t8 + service) as u128 * m.beta as u128 + warning as u128 * m.speed as u128;
-    peer::sum_inline(product(way, 9 * m.a), m.part)
+    wide::sum_inline(product(way, 9 * m.a), m.part)
 }
 
 #[inline(always)]
 fn distance(curve: Curve, c: Course, m: &Motion) -> u32 {
-    peer::quotient_up_inline(scaled(curve, c, m), m.scale)
+    wide::quotient_up_inline(scaled(curve, c, m), m.scale)
 }
 
 /// Whether dp + di from v0 to v0 is not below 0.05 m/s².
@@ -105,7 +106,7 @@ pub(crate) fn strong(c: Course, v0: u32) -> bool {
 #[inline(always)]
 pub(crate) fn fits(c: Course, v: u32, v0: u32, millimetres: u32) -> bool {
     let m = motion(c, v, v0);
-    peer::at_most(scaled(Curve::P, c, &m), peer::times_inline(m.scale, millimetres as u64))
+    wide::at_most(scaled(Curve::P, c, &m), wide::times_inline(m.scale, millimetres as u64))
 }
 
 #[inline(never)]

@@ -1,41 +1,48 @@
-//! The library's ramp answers against the reference and document 000's printed tables, and the peer against both.
-use bench::inputs::Random;
-use bench::library::{ramp, Stop};
+//! The library's ramp answers against the reference and document 000's printed tables.
+use approach::{ramp, raw, Kmh, Millimetre, Millisecond, PerMille, Refusal, Stop};
+use inputs::{times, Random};
 use reference::allegato::{cells, Cell, DEAD_TIME, MISPRINTS};
 use reference::ramp::{keeps_promise, ALLOWANCE};
 
 /// Half a metre, by which a printed whole metre may be off the exact distance.
 const HALF_A_METRE: u32 = 500;
 
-fn expected(braked_weight: u32, gradient: i32, v: u32, tm: u32, tr: u32) -> Stop {
-    match reference::ramp::ramp(braked_weight, gradient, v, tm, tr) {
-        Ok(stop) => Stop { refusal: 0, distance: stop.distance, moment: stop.moment },
-        Err(refusal) => Stop { refusal, distance: 0, moment: 0 },
-    }
+/// Distance and moment, or the number of the refusal.
+fn answer(braked_weight: u32, gradient: i32, v: u32, tm: u32, tr: u32) -> Result<(u32, u32), u32> {
+    let answer = ramp(braked_weight, PerMille(gradient), Kmh(v), times(tm, tr));
+    let numbers = |Stop { distance: Millimetre(distance), moment: Millisecond(moment) }| (distance, moment);
+    answer.map(numbers).map_err(Refusal::number)
 }
 
-/// The answer by the reference's own search, and its promise apart from that.
+/// The answer by the reference's own search, and its promise apart from that; zeros beside a refusal.
 fn check(braked_weight: u32, gradient: i32, v: u32, tm: u32, tr: u32) -> u32 {
     let inputs = format!("BW {braked_weight}, i {gradient}, V {v}, TM {tm}, TR {tr}");
-    let stop = ramp(braked_weight, gradient, v, tm, tr);
-    assert_eq!(stop, expected(braked_weight, gradient, v, tm, tr), "{inputs}");
-    if stop.refusal == 0 {
-        let Stop { distance, moment, .. } = stop;
-        assert!(keeps_promise(braked_weight, gradient, v, tm, tr, distance, moment), "the promise: {inputs}");
-        assert_eq!(stop, bench::ramp::ramp(braked_weight, gradient, v, tm, tr), "the peer: {inputs}");
+    let answer = answer(braked_weight, gradient, v, tm, tr);
+    let expected = reference::ramp::ramp(braked_weight, gradient, v, tm, tr);
+    assert_eq!(answer, expected.map(|stop| (stop.distance, stop.moment)), "{inputs}");
+    match answer {
+        Ok((distance, moment)) => {
+            assert!(keeps_promise(braked_weight, gradient, v, tm, tr, distance, moment), "the promise: {inputs}");
+            0
+        }
+        Err(refusal) => {
+            let zeros = raw::Stop { refusal, distance: 0, moment: 0 };
+            assert_eq!(raw::ramp(braked_weight, gradient, v, tm, tr), zeros, "{inputs}");
+            refusal
+        }
     }
-    stop.refusal
 }
 
 #[test]
 fn answers_at_random() {
     let mut random = Random(51);
     let mut seen = [0; 12];
-    for _ in 0..50_000 {
+    for _ in 0..130_000 {
         let (weight, gradient) = (random.braked_weight(), random.gradient());
         let (v, tm, tr) = (random.near(1, 100), random.near(0, 2000), random.near(1, 3000));
         seen[check(weight, gradient, v, tm, tr) as usize] += 1;
     }
+    assert!(seen[0] >= 100_000, "{seen:?}");
     for refusal in [0, 1, 3, 5, 6, 10] {
         assert!(seen[refusal] > 200, "too few answers with {refusal}: {seen:?}");
     }
@@ -63,8 +70,8 @@ fn figures() {
     for ((gradient, v, tm, tr), range) in
         [((0, 36, 200, 400), 110_850..=110_851), ((0, 1, 0, 3000), 903..=904), ((35, 1, 2000, 1), 125..=126)]
     {
-        let stop = ramp(100, gradient, v, tm, tr);
-        assert!(stop.refusal == 0 && range.contains(&stop.distance), "V {v}, i {gradient}: {stop:?}");
+        let (distance, _) = answer(100, gradient, v, tm, tr).expect("an accepted input");
+        assert!(range.contains(&distance), "V {v}, i {gradient}: {distance}");
     }
 }
 
@@ -72,11 +79,8 @@ fn figures() {
 /// that the library takes, and its distance between theirs.
 fn agrees(cell: Cell) -> bool {
     let (lower, upper) = cell.rise_hundredths();
-    let distance = |tr| {
-        let stop = ramp(cell.braked_weight, cell.gradient, cell.v, DEAD_TIME, tr);
-        assert_eq!(stop.refusal, 0, "{cell:?}");
-        stop.distance
-    };
+    let stop = |tr| answer(cell.braked_weight, cell.gradient, cell.v, DEAD_TIME, tr).expect("an accepted cell");
+    let distance = |tr| stop(tr).0;
     let printed = 1000 * cell.metres;
     printed <= distance(upper) + HALF_A_METRE && distance(lower) < printed + HALF_A_METRE + ALLOWANCE
 }

@@ -1,61 +1,65 @@
-//! The library's approach answers against the reference, on accepted and refused queries, the desk's third demand of the accepted
-//! ones, and the peer against both.
-use bench::inputs::{written, Query, Random, EXAMPLE, EXAMPLE_TRAIN};
-use bench::library::{query, Answer, Line, Train, CURVE, RELEASE};
-use paper::on_paper;
-use reference::approach::{approach, keeps_demand, printed, Mark};
+//! The library's approach answers against the reference, on accepted and refused queries, and the desk's third demand of the
+//! accepted ones.
+use approach::{raw, Approach, Brake, Ceilings, Kmh, Mark, Metre, Refusal, Train};
+use inputs::{on_paper, Line, Query, Random, EXAMPLE, EXAMPLE_TRAIN};
+use reference::approach::{approach, keeps_demand, printed};
 use std::collections::BTreeMap;
 use std::hint::black_box;
-
-mod paper;
 
 /// What stands in as many bytes on either side of a lent sheet.
 const UNTOUCHED: u8 = 0xa5;
 const GUARD: usize = 7;
 
 const WEAK: Train = Train { braked_weight: 45, ..EXAMPLE_TRAIN };
-const LONG_FREIGHT: Train = Train { freight: true, electropneumatic: false, length: 1000, ..EXAMPLE_TRAIN };
+const LONG_FREIGHT: Train =
+    Train { brake: Brake::Freight, electropneumatic: false, length: Metre(1000), ..EXAMPLE_TRAIN };
 
-fn expected(q: &Query) -> Answer {
-    match approach(on_paper(q.train), q.tm, q.tr, &q.sheet, q.signal, q.head) {
-        Ok(reference::approach::Answer { release, permitted, mark, ceilings: [w, sbi, ebi] }) => {
-            Answer { refusal: 0, release, permitted, mark: mark as u32, w, sbi, ebi }
-        }
-        Err(refusal) => Answer { refusal, release: 0, permitted: 0, mark: 0, w: 0, sbi: 0, ebi: 0 },
-    }
+/// The answer as the reference has it.
+fn on_reference(answer: Approach) -> reference::approach::Answer {
+    let Approach { release: Kmh(release), permitted: Kmh(permitted), mark, ceilings: Ceilings { w, sbi, ebi } } =
+        answer;
+    let mark = match mark {
+        Mark::Curve => reference::approach::Mark::Curve,
+        Mark::Release => reference::approach::Mark::Release,
+    };
+    reference::approach::Answer { release, permitted, mark, ceilings: [w.0, sbi.0, ebi.0] }
 }
 
 /// The library's answer from a sheet that lies between other bytes, all of which it leaves as they are.
-fn answer(q: &Query) -> Answer {
+fn answer(q: &Query) -> Result<Approach, u32> {
     let guard = [UNTOUCHED; GUARD];
     let memory = [&guard, &q.sheet[..], &guard].concat();
-    let lent = &memory[GUARD..GUARD + q.sheet.len()];
-    let answer = query(q.train, q.tm, q.tr, lent, q.signal, q.head);
+    let answer = q.on(&memory[GUARD..GUARD + q.sheet.len()]);
     assert_eq!(black_box(memory), [&guard, &q.sheet[..], &guard].concat(), "the query has changed bytes: {q:?}");
-    answer
+    answer.map_err(Refusal::number)
 }
 
-fn keeps_the_demand(q: &Query, answer: Answer) -> bool {
-    let Answer { release, permitted, mark, w, sbi, ebi, .. } = answer;
-    let mark = match mark {
-        CURVE => Mark::Curve,
-        RELEASE => Mark::Release,
-        _ => return false,
-    };
-    let answer = reference::approach::Answer { release, permitted, mark, ceilings: [w, sbi, ebi] };
-    keeps_demand(on_paper(q.train), q.tm, q.tr, &q.sheet, q.signal, q.head, answer) == Ok(())
-}
-
-fn check(q: &Query) -> Answer {
+/// Beside a refusal stand zeros.
+fn check(q: &Query) -> Result<Approach, u32> {
+    let Query { train, tm, tr, sheet, signal, head } = q;
     let answer = answer(q);
-    assert_eq!(answer, expected(q), "{q:?}");
-    if answer.refusal == 0 {
-        assert!(keeps_the_demand(q, answer), "the demand: {answer:?} to {q:?}");
-    }
-    if ![1, 2, 3, 6].contains(&answer.refusal) {
-        assert_eq!(answer, q.peer(), "the peer: {q:?}");
+    let expected = approach(on_paper(*train), *tm, *tr, sheet, *signal, *head);
+    assert_eq!(answer.map(on_reference), expected, "{q:?}");
+    match answer {
+        Ok(answer) => {
+            let kept = keeps_demand(on_paper(*train), *tm, *tr, sheet, *signal, *head, on_reference(answer));
+            assert_eq!(kept, Ok(()), "the demand: {answer:?} to {q:?}");
+        }
+        Err(refusal) => {
+            let zeros = raw::Answer { refusal, release: 0, permitted: 0, mark: 0, w: 0, sbi: 0, ebi: 0 };
+            assert_eq!(raw::query((*train).into(), *tm, *tr, sheet, *signal, *head), zeros, "{q:?}");
+        }
     }
     answer
+}
+
+fn accepted(q: &Query) -> Approach {
+    check(q).expect("an accepted query")
+}
+
+/// 0 of an accepted one.
+fn refusal(q: &Query) -> u32 {
+    check(q).err().unwrap_or(0)
 }
 
 /// Mostly a line where speeds differ, now and then any line.
@@ -109,26 +113,26 @@ fn any_query(random: &mut Random) -> Query {
     let line = line(random);
     let (signal, head) = signal_and_head(random, &line);
     let past = line.places[signal as usize] + 1;
-    let mut sheet = written(&line);
+    let mut sheet = line.written();
     damage(random, &mut sheet);
     let (mut train, (tm, tr)) = (random.train(), times(random));
     if random.below(3) == 0 {
-        train.top_speed = 1 + random.below_any(&[30, 120]);
+        train.top_speed = Kmh(1 + random.below_any(&[30, 120]));
     }
     let signal = or_outside(random, signal, line.places.len() as u32);
     Query { train, tm, tr, sheet, signal, head: or_outside(random, head, past) }
 }
 
 /// What an accepted answer may look like: each has to be seen.
-fn kinds(train: Train, a: Answer) -> [bool; 6] {
-    let fastest = train.top_speed.min(100);
+fn kinds(train: Train, a: Approach) -> [bool; 6] {
+    let fastest = train.top_speed.min(Kmh(100));
     [
-        a.release == 0,
-        a.release > 0 && a.release < fastest,
+        a.release == Kmh(0),
+        a.release > Kmh(0) && a.release < fastest,
         a.release == fastest,
-        a.mark == RELEASE,
-        a.mark == CURVE && a.release < a.permitted && a.permitted < train.top_speed,
-        a.mark == CURVE && a.permitted == train.top_speed,
+        a.mark == Mark::Release,
+        a.mark == Mark::Curve && a.release < a.permitted && a.permitted < train.top_speed,
+        a.mark == Mark::Curve && a.permitted == train.top_speed,
     ]
 }
 
@@ -136,11 +140,11 @@ fn kinds(train: Train, a: Answer) -> [bool; 6] {
 fn answers_at_random() {
     let mut random = Random(61);
     let (mut seen, mut looks) = ([0; 12], [0; 6]);
-    for _ in 0..4_000 {
+    for _ in 0..12_000 {
         let q = any_query(&mut random);
         let answer = check(&q);
-        seen[answer.refusal as usize] += 1;
-        if answer.refusal == 0 {
+        seen[answer.err().unwrap_or(0) as usize] += 1;
+        if let Ok(answer) = answer {
             looks.iter_mut().zip(kinds(q.train, answer)).for_each(|(count, kind)| *count += kind as u32);
         }
     }
@@ -153,7 +157,7 @@ fn answers_at_random() {
 fn sheet(stretches: &[(u32, i16)], signals: &[(u32, u16)], end: u32) -> Vec<u8> {
     let (starts, gradients) = stretches.iter().copied().unzip();
     let (places, overlaps) = signals.iter().copied().unzip();
-    written(&Line { starts, gradients, places, overlaps, end })
+    Line { starts, gradients, places, overlaps, end }.written()
 }
 
 /// The printing program's query, one signal 1,000 m on.
@@ -163,15 +167,18 @@ fn one_signal(stretches: &[(u32, i16)], overlap: u16) -> Query {
 
 #[test]
 fn the_printed_example() {
-    let lines: String = (0..2)
-        .map(|signal| {
-            let Answer { refusal, release, permitted, mark, w, sbi, ebi } =
-                check(&Query { signal, ..Query::printed(EXAMPLE.to_vec()) });
-            assert_eq!(refusal, 0);
-            let mark = ["", "curve", "release"][mark as usize];
-            format!("{signal} {release} {permitted} {mark} {w} {sbi} {ebi}\n")
-        })
-        .collect();
+    let lines: String =
+        (0..2)
+            .map(|signal| {
+                let Approach {
+                    release: Kmh(release),
+                    permitted: Kmh(permitted),
+                    mark,
+                    ceilings: Ceilings { w, sbi, ebi },
+                } = accepted(&Query { signal, ..Query::printed(EXAMPLE.to_vec()) });
+                format!("{signal} {release} {permitted} {mark} {} {} {}\n", w.0, sbi.0, ebi.0)
+            })
+            .collect();
     assert_eq!(lines, "0 37 37 release 4920 5040 5340\n1 0 90 curve 11280 11400 11700\n");
     assert_eq!(lines, printed(&EXAMPLE));
 }
@@ -181,7 +188,7 @@ fn the_printed_example() {
 fn signal_numbers_and_heads() {
     let places = [0, 1, 500, 1057, 1999];
     let line = sheet(&[(0, 2), (700, -3)], &places.map(|place| (place, 1)), 2000);
-    let ask = |signal, head| check(&Query { signal, head, ..Query::printed(line.clone()) }).refusal;
+    let ask = |signal, head| refusal(&Query { signal, head, ..Query::printed(line.clone()) });
     for (signal, place) in (0..).zip(places) {
         assert_eq!([0, place.saturating_sub(1), place].map(|head| ask(signal, head)), [0; 3], "signal {signal}");
         assert_eq!([place + 1, 2000, u32::MAX].map(|head| ask(signal, head)), [9; 3], "signal {signal}");
@@ -191,7 +198,7 @@ fn signal_numbers_and_heads() {
         assert_eq!([0, u32::MAX].map(|head| ask(signal, head)), [8; 2], "signal {signal}");
     }
     let bare = sheet(&[(0, 0)], &[], 2000);
-    assert_eq!(check(&Query::printed(bare)).refusal, 8);
+    assert_eq!(refusal(&Query::printed(bare)), 8);
 }
 
 /// A fall from a point on, up to it, and of one metre, about each end of the two spans.
@@ -202,13 +209,12 @@ fn stretches_about_the_spans() {
         let end = 1000 + overlap as u32;
         for point in [399, 400, 401, 999, 1000, 1001, end - 1, end, end + 1] {
             for stretches in [[(0, 0), (point, -9), (30_000, -9)], [(0, -9), (point, 0), (30_000, 4)]] {
-                answers.push(check(&Query { head: 400, ..one_signal(&stretches, overlap) }));
+                answers.push(accepted(&Query { head: 400, ..one_signal(&stretches, overlap) }));
             }
             let dip = [(0, 3), (point, -20), (point + 1, 3)];
-            answers.push(check(&Query { head: 400, ..one_signal(&dip, overlap) }));
+            answers.push(accepted(&Query { head: 400, ..one_signal(&dip, overlap) }));
         }
     }
-    assert!(answers.iter().all(|answer| answer.refusal == 0));
     answers.sort_by_key(|a| (a.release, a.permitted));
     answers.dedup();
     assert!(answers.len() > 10, "{answers:?}");
@@ -217,7 +223,7 @@ fn stretches_about_the_spans() {
 /// The same, said without the reference: which stretches count and which do not.
 #[test]
 fn which_stretches_count() {
-    let ahead = |stretches: &[_]| check(&Query { head: 400, ..one_signal(stretches, 0) });
+    let ahead = |stretches: &[_]| accepted(&Query { head: 400, ..one_signal(stretches, 0) });
     let (level, falling) = (ahead(&[(0, 0)]), ahead(&[(0, -10)]));
     assert!(falling.permitted < level.permitted);
     assert_eq!(ahead(&[(0, 0), (999, -10)]), falling, "before the signal");
@@ -225,7 +231,7 @@ fn which_stretches_count() {
     assert_eq!(ahead(&[(0, 0), (1001, -10)]), level, "past the signal");
     assert_eq!(ahead(&[(0, -10), (401, 0)]), falling, "at the head");
     assert_eq!(ahead(&[(0, -10), (400, 0)]), level, "behind the head");
-    let release = |stretches: &[_]| check(&one_signal(stretches, 120)).release;
+    let release = |stretches: &[_]| accepted(&one_signal(stretches, 120)).release;
     let (level, falling) = (release(&[(0, 0)]), release(&[(0, -20)]));
     assert!(falling < level);
     assert_eq!(release(&[(0, -20), (1000, 0)]), level, "before the signal");
@@ -233,7 +239,7 @@ fn which_stretches_count() {
     assert_eq!(release(&[(0, 0), (1119, -20)]), falling, "the overlap's last metre");
     assert_eq!(release(&[(0, 0), (1120, -20)]), level, "the overlap's end");
     let to_the_end = Query::printed(sheet(&[(0, 0), (1119, -20)], &[(1000, 120)], 1120));
-    assert_eq!(check(&to_the_end).release, falling, "an overlap up to the line end");
+    assert_eq!(accepted(&to_the_end).release, falling, "an overlap up to the line end");
 }
 
 /// The ends of both climbs, and overlaps and distances on either side of what the least speeds need.
@@ -242,21 +248,21 @@ fn ends_of_the_climbs() {
     let line = |overlap| sheet(&[(0, 0)], &[(25_000, overlap)], 60_000);
     for top_speed in [1, 2, 99, 100, 101, 329, 330] {
         for train in [EXAMPLE_TRAIN, LONG_FREIGHT] {
-            let train = Train { top_speed, ..train };
+            let train = Train { top_speed: Kmh(top_speed), ..train };
             for overlap in [0, 1, 5, 6, 30_000] {
                 for head in [0, 20_000, 24_990, 24_999, 25_000] {
                     let tm = if overlap < 30_000 { 2000 } else { 200 };
-                    check(&Query { train, tm, head, ..Query::printed(line(overlap)) });
+                    refusal(&Query { train, tm, head, ..Query::printed(line(overlap)) });
                 }
             }
-            let far = check(&Query { train, ..Query::printed(line(30_000)) });
-            let wanted = (top_speed.min(100), top_speed, CURVE);
+            let far = accepted(&Query { train, ..Query::printed(line(30_000)) });
+            let wanted = (Kmh(top_speed.min(100)), Kmh(top_speed), Mark::Curve);
             assert_eq!((far.release, far.permitted, far.mark), wanted, "{train:?}");
         }
     }
     // After 20 s without brake 1 km/h takes more than 5 m and less than 6.
-    let releases = [0, 1, 5, 6].map(|overlap| check(&Query { tm: 2000, ..Query::printed(line(overlap)) }).release);
-    assert_eq!(releases, [0, 0, 0, 1]);
+    let releases = [0, 1, 5, 6].map(|overlap| accepted(&Query { tm: 2000, ..Query::printed(line(overlap)) }).release);
+    assert_eq!(releases, [0, 0, 0, 1].map(Kmh));
 }
 
 /// A ramp answer and a P distance that just fit, and such that are 1 mm, or a fraction of it, too long.
@@ -264,20 +270,20 @@ fn ends_of_the_climbs() {
 fn what_just_fits() {
     // The ramp answers 11,000 mm at 7 km/h and 3,001 at 5.
     for (tm, tr, overlap, release) in [(251, 400, 11, 7), (69, 100, 3, 4)] {
-        assert_eq!(check(&Query { tm, tr, ..one_signal(&[(0, 0)], overlap) }).release, release);
+        assert_eq!(accepted(&Query { tm, tr, ..one_signal(&[(0, 0)], overlap) }).release, Kmh(release));
     }
     // 36 km/h to 36 take 141 m exactly, 90 km/h to 0 take 1,056.282 m.
-    let creep =
-        |head| check(&Query { train: Train { top_speed: 36, ..EXAMPLE_TRAIN }, head, ..one_signal(&[(0, 0)], 120) });
-    assert_eq!([859, 860].map(|head| creep(head).mark), [CURVE, RELEASE]);
+    let train = Train { top_speed: Kmh(36), ..EXAMPLE_TRAIN };
+    let creep = |head| accepted(&Query { train, head, ..one_signal(&[(0, 0)], 120) });
+    assert_eq!([859, 860].map(|head| creep(head).mark), [Mark::Curve, Mark::Release]);
     // Raised, 93 km/h to 0 take 1,616,001 mm on -16 and 107 take 1,200,000 on 11.
     for (gradient, distance, permitted) in
         [(0, 1056, 89), (0, 1057, 90), (-16, 1616, 92), (-16, 1617, 93), (11, 1199, 106), (11, 1200, 107)]
     {
-        let train = Train { top_speed: 330, ..EXAMPLE_TRAIN };
+        let train = Train { top_speed: Kmh(330), ..EXAMPLE_TRAIN };
         let line = sheet(&[(0, gradient)], &[(2000, 0)], 2001);
-        let answer = check(&Query { train, head: 2000 - distance, ..Query::printed(line) });
-        assert_eq!(answer.permitted, permitted, "{distance} m on {gradient}");
+        let answer = accepted(&Query { train, head: 2000 - distance, ..Query::printed(line) });
+        assert_eq!(answer.permitted, Kmh(permitted), "{distance} m on {gradient}");
     }
 }
 
@@ -286,11 +292,11 @@ fn what_just_fits() {
 fn the_first_misfit() {
     let line = sheet(&[(0, -34), (2000, 0)], &[(2000, 1)], 2001);
     for distance in (1200..1310).step_by(5).chain([1290, 1291, 1303, 1304]) {
-        let answer = check(&Query { train: LONG_FREIGHT, head: 2000 - distance, ..Query::printed(line.clone()) });
+        let answer = accepted(&Query { train: LONG_FREIGHT, head: 2000 - distance, ..Query::printed(line.clone()) });
         let wanted = match distance {
-            ..=1290 => (1, RELEASE),
-            1291..=1303 => (4, CURVE),
-            _ => (5, CURVE),
+            ..=1290 => (Kmh(1), Mark::Release),
+            1291..=1303 => (Kmh(4), Mark::Curve),
+            _ => (Kmh(5), Mark::Curve),
         };
         assert_eq!((answer.permitted, answer.mark), wanted, "{distance} m");
     }
@@ -299,22 +305,22 @@ fn the_first_misfit() {
 /// The ramp alone, the step model alone, and the release speed that decides for the latter.
 #[test]
 fn too_weak() {
-    let ask = |stretches: &[_], overlap| check(&Query { train: WEAK, ..one_signal(stretches, overlap) }).refusal;
+    let ask = |stretches: &[_], overlap| refusal(&Query { train: WEAK, ..one_signal(stretches, overlap) });
     assert_eq!([0, 1, 2].map(|overlap| ask(&[(0, 0), (1001, -35)], overlap)), [0, 0, 10]);
     for overlap in [0, 1, 500] {
         assert_eq!(ask(&[(0, -19), (500, 0)], overlap), 10);
         assert_eq!(ask(&[(0, 0), (1001, -19)], overlap), 0);
     }
     // On -18 it is just strong enough to stop, and not to pass the signal.
-    let slow = |overlap, tm| check(&Query { train: WEAK, tm, tr: 1, ..one_signal(&[(0, -18)], overlap) }).refusal;
+    let slow = |overlap, tm| refusal(&Query { train: WEAK, tm, tr: 1, ..one_signal(&[(0, -18)], overlap) });
     assert_eq!([slow(0, 0), slow(1, 0), slow(1, 2000)], [0, 10, 0]);
     for braked_weight in (45..=160).step_by(5) {
         for gradient in -35..=-10 {
             for (stretches, overlap) in
                 [([(0, gradient), (1000, 0)], 0), ([(0, gradient), (1000, 0)], 9), ([(0, 0), (1001, gradient)], 9)]
             {
-                let train = Train { braked_weight, top_speed: 20, ..EXAMPLE_TRAIN };
-                check(&Query { train, ..one_signal(&stretches, overlap) });
+                let train = Train { braked_weight, top_speed: Kmh(20), ..EXAMPLE_TRAIN };
+                refusal(&Query { train, ..one_signal(&stretches, overlap) });
             }
         }
     }
@@ -327,9 +333,9 @@ const FAULTS: [(u32, Edit); 13] = [
     (1, |q| q.train.braked_weight = 44),
     (1, |q| q.train.braked_weight = 47),
     (1, |q| q.train.braked_weight = 165),
-    (2, |q| q.train.length = 1001),
-    (3, |q| q.train.top_speed = 0),
-    (3, |q| q.train.top_speed = 331),
+    (2, |q| q.train.length = Metre(1001)),
+    (3, |q| q.train.top_speed = Kmh(0)),
+    (3, |q| q.train.top_speed = Kmh(331)),
     (6, |q| q.tm = 2001),
     (6, |q| q.tr = 0),
     (6, |q| q.tr = 3001),
@@ -342,13 +348,13 @@ const FAULTS: [(u32, Edit); 13] = [
 #[test]
 fn the_lowest_refusal_first() {
     let weak = Query { train: WEAK, ..Query::printed(sheet(&[(0, -35)], &[(5, 1), (7, 0)], 10)) };
-    assert_eq!(check(&weak).refusal, 10);
+    assert_eq!(refusal(&weak), 10);
     for (low, fault) in FAULTS {
         for (high, other) in FAULTS {
             let mut q = weak.clone();
             fault(&mut q);
             other(&mut q);
-            assert_eq!(check(&q).refusal, low.min(high), "{q:?}");
+            assert_eq!(refusal(&q), low.min(high), "{q:?}");
         }
     }
 }
@@ -393,10 +399,10 @@ fn agreeing_sheets() {
         let (signal, head) = signal_and_head(&mut random, &line);
         let (other, number) = agreeing(&mut random, &line, signal, head);
         let (train, (tm, tr)) = (random.train(), times(&mut random));
-        let q = Query { train, tm, tr, sheet: written(&line), signal, head };
-        let agreeing = Query { sheet: written(&other), signal: number, ..q.clone() };
+        let q = Query { train, tm, tr, sheet: line.written(), signal, head };
+        let agreeing = Query { sheet: other.written(), signal: number, ..q.clone() };
         assert_eq!(answer(&q), answer(&agreeing), "{q:?} {agreeing:?}");
-        accepted += (answer(&q).refusal == 0) as u32;
+        accepted += answer(&q).is_ok() as u32;
         renumbered += (signal != number) as u32;
     }
     assert!(accepted > 1_000 && renumbered > 500, "{accepted} accepted, {renumbered} with another number");

@@ -1,27 +1,28 @@
-//! The library's distances, rows and ceilings against the reference, on accepted and refused inputs, and the peer against both.
-use bench::inputs::Random;
-use bench::library::{ceilings, row, step, Curve, Distances, Limits, Train, Written, CURVES};
-use paper::on_paper;
+//! The library's distances, rows and ceilings against the reference, on accepted and refused inputs.
+use approach::{
+    ceilings, raw, row, step, Brake, Ceilings, Curve, Distances, Kmh, Metre, Millimetre, PerMille, Refusal,
+};
+use approach::{Train, CURVES};
+use inputs::{on_paper, Random};
 
-mod paper;
+/// What stands in lent memory before a call, and in as many places on either side of it.
+const UNTOUCHED: Millimetre = Millimetre(0xdead_beef);
+const GUARD: usize = 4;
 
-/// What stands in lent memory before a call.
-const UNTOUCHED: u32 = 0xdead_beef;
-
-fn expected(t: Train, v: u32, v0: u32, gradient: i32) -> Distances {
-    match reference::step::step(on_paper(t), v, v0, gradient) {
-        Ok([ebi, sbi, w, p]) => Distances { refusal: 0, ebi, sbi, w, p },
-        Err(refusal) => Distances { refusal, ebi: 0, sbi: 0, w: 0, p: 0 },
-    }
+/// The answer as the reference gives it: four numbers, or the refusal's.
+fn numbers(answer: Result<Distances, Refusal>) -> Result<[u32; 4], u32> {
+    answer.map(|d| CURVES.map(|curve| d.of(curve).0)).map_err(Refusal::number)
 }
 
+/// Answers 0, or the number of the refusal, beside which there are zeros.
 fn check(t: Train, v: u32, v0: u32, gradient: i32) -> u32 {
-    let d = step(t, v, v0, gradient);
-    assert_eq!(d, expected(t, v, v0, gradient), "{t:?}, V {v}, V0 {v0}, i {gradient}");
-    if d.refusal == 0 {
-        assert_eq!(d, bench::step::step(t, v, v0, gradient), "the peer: {t:?}, V {v}, V0 {v0}, i {gradient}");
-    }
-    d.refusal
+    let answer = numbers(step(t, Kmh(v), Kmh(v0), PerMille(gradient)));
+    let expected = reference::step::step(on_paper(t), v, v0, gradient);
+    assert_eq!(answer, expected, "{t:?}, V {v}, V0 {v0}, i {gradient}");
+    let Err(refusal) = answer else { return 0 };
+    let zeros = raw::Distances { refusal, ebi: 0, sbi: 0, w: 0, p: 0 };
+    assert_eq!(raw::step(t.into(), v, v0, gradient), zeros, "{t:?}, V {v}, V0 {v0}, i {gradient}");
+    refusal
 }
 
 /// V, and mostly a V0 that is not above it.
@@ -35,7 +36,7 @@ fn speeds(random: &mut Random) -> (u32, u32) {
 fn distances_at_random() {
     let mut random = Random(21);
     let mut seen = [0; 12];
-    for _ in 0..200_000 {
+    for _ in 0..1_000_000 {
         let (t, (v, v0), gradient) = (random.train(), speeds(&mut random), random.gradient());
         seen[check(t, v, v0, gradient) as usize] += 1;
     }
@@ -51,8 +52,9 @@ fn distances_at_the_thresholds() {
     for kind in 0..4 {
         for braked_weight in [45, 50, 100, 155, 160] {
             for length in [0, 1, 200, 953, 954, 999, 1000] {
-                let (freight, electropneumatic) = (kind & 1 == 0, kind & 2 == 0);
-                let t = Train { freight, electropneumatic, braked_weight, length, top_speed: 100 };
+                let brake = [Brake::Freight, Brake::Passenger][kind & 1];
+                let (length, top_speed) = (Metre(length), Kmh(100));
+                let t = Train { brake, electropneumatic: kind & 2 == 0, braked_weight, length, top_speed };
                 for gradient in [-35, -22, -21, -20, -19, -18, -1, 0, 1, 10, 34, 35] {
                     for (v, v0) in [
                         (0, 0),
@@ -78,30 +80,27 @@ fn distances_at_the_thresholds() {
 
 /// A row between places that are not lent: written where the answer says, and nowhere else.
 fn check_row(curve: Curve, t: Train, v0: u32, gradient: i32, places: usize) -> u32 {
-    let mut memory = vec![UNTOUCHED; places + 8];
-    let written = row(curve, t, v0, gradient, &mut memory[4..4 + places]);
+    let mut memory = vec![UNTOUCHED; places + 2 * GUARD];
+    let answer = row(curve, t, Kmh(v0), PerMille(gradient), &mut memory[GUARD..GUARD + places]);
+    let answer = answer.map(<[Millimetre]>::to_vec).map_err(Refusal::number);
     let paper_curve = match curve {
         Curve::Ebi => reference::step::Curve::Ebi,
         Curve::Sbi => reference::step::Curve::Sbi,
         Curve::W => reference::step::Curve::W,
         Curve::P => reference::step::Curve::P,
     };
-    let mut after = vec![UNTOUCHED; places + 8];
-    let answer = match reference::step::row(paper_curve, on_paper(t), v0, gradient, places) {
-        Ok(row) => {
-            after[4..4 + row.len()].copy_from_slice(&row);
-            Written { refusal: 0, length: row.len() as u32 }
-        }
-        Err(refusal) => Written { refusal, length: 0 },
-    };
-    assert_eq!(written, answer, "{curve:?}, {t:?}, V0 {v0}, i {gradient}, {places} places");
-    assert_eq!(memory, after, "{curve:?}, {t:?}, V0 {v0}, i {gradient}, {places} places");
-    if answer.refusal == 0 {
-        let mut peer = vec![0; answer.length as usize];
-        bench::step::row(curve, t, v0, gradient, &mut peer);
-        assert_eq!(peer, after[4..4 + peer.len()]);
+    let expected = reference::step::row(paper_curve, on_paper(t), v0, gradient, places);
+    let expected = expected.map(|row| row.into_iter().map(Millimetre).collect::<Vec<_>>());
+    let mut after = vec![UNTOUCHED; places + 2 * GUARD];
+    if let Ok(row) = &expected {
+        after[GUARD..GUARD + row.len()].copy_from_slice(row);
     }
-    answer.refusal
+    assert_eq!(answer, expected, "{curve:?}, {t:?}, V0 {v0}, i {gradient}, {places} places");
+    assert_eq!(memory, after, "{curve:?}, {t:?}, V0 {v0}, i {gradient}, {places} places");
+    let Err(refusal) = answer else { return 0 };
+    let written = raw::row(curve, t.into(), v0, gradient, &mut vec![0; places]);
+    assert_eq!(written, raw::Written { refusal, length: 0 });
+    refusal
 }
 
 #[test]
@@ -110,7 +109,7 @@ fn rows_between_untouched_places() {
     let mut seen = [0; 12];
     for round in 0..2_000 {
         let (t, gradient) = (random.train(), random.gradient());
-        let top = t.top_speed.min(330);
+        let top = t.top_speed.0.min(330);
         let v0 = if round % 8 == 0 { random.near(0, 330) } else { random.below(top as u64 + 1) as u32 };
         let needed = (top + 1).saturating_sub(v0) as usize;
         let places = match round % 4 {
@@ -129,10 +128,11 @@ fn rows_between_untouched_places() {
 #[test]
 fn every_ceiling() {
     for permitted in (0..=400).chain([u32::MAX]) {
-        let answer = match reference::ceilings::ceilings(permitted) {
-            Ok([w, sbi, ebi]) => Limits { refusal: 0, w, sbi, ebi },
-            Err(refusal) => Limits { refusal, w: 0, sbi: 0, ebi: 0 },
-        };
-        assert_eq!(ceilings(permitted), answer, "{permitted}");
+        let answer = ceilings(Kmh(permitted)).map(|Ceilings { w, sbi, ebi }| [w, sbi, ebi].map(|ceiling| ceiling.0));
+        assert_eq!(answer.map_err(Refusal::number), reference::ceilings::ceilings(permitted), "{permitted}");
+        if let Err(refusal) = answer {
+            let zeros = raw::Limits { refusal: refusal.number(), w: 0, sbi: 0, ebi: 0 };
+            assert_eq!(raw::ceilings(permitted), zeros, "{permitted}");
+        }
     }
 }

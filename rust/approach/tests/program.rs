@@ -1,6 +1,5 @@
 //! The printing program, `target/bin/approach_sheet`, against the lines that the reference prints for the same bytes.
-use bench::inputs::{written, Random, EXAMPLE};
-use bench::library::Line;
+use inputs::{Line, Random, EXAMPLE};
 use reference::approach::printed;
 use std::io::Write;
 use std::process::{Command, Stdio};
@@ -44,13 +43,14 @@ fn bad_sheets() {
 }
 
 fn level(stretches: u32, signals: u32) -> Vec<u8> {
-    written(&Line {
+    let line = Line {
         starts: (0..stretches).map(|number| 5 * number).collect(),
         gradients: vec![0; stretches as usize],
         places: (0..signals).map(|number| 40 * number).collect(),
         overlaps: (0..signals).map(|number| 3 * number as u16).collect(),
         end: 3000,
-    })
+    };
+    line.written()
 }
 
 #[test]
@@ -77,7 +77,7 @@ fn a_refused_signal() {
         overlaps: vec![120, 0],
         end: 2000,
     };
-    let lines = check(&written(&line));
+    let lines = check(&line.written());
     assert!(lines.starts_with("0 refused 10\n1 0 "), "{lines}");
 }
 
@@ -86,7 +86,7 @@ fn lines_at_random() {
     let mut random = Random(81);
     let mut signals = 0;
     for _ in 0..100 {
-        signals += check(&written(&random.short_line())).lines().count();
+        signals += check(&random.short_line().written()).lines().count();
     }
     assert!(signals > 150, "{signals}");
 }

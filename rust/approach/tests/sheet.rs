@@ -1,36 +1,26 @@
-//! The library's line sheets against the reference, on kept and damaged sheets and lists, and the peer against both.
-use bench::inputs::{written, Random, EXAMPLE};
-use bench::library::{sheet_next, sheet_signal, sheet_stretch, sheet_write};
-use bench::library::{Line, Mark, Move, Signal, Stretch, Written, FRESH};
+//! The library's line sheets against the reference, on kept and damaged sheets and lists.
+use approach::raw;
+use approach::sheet::{signal, signals, stretch, stretches, write, Lists, Mark, Signal, Stretch};
+use approach::{Metre, PerMille, Refusal};
+use inputs::{Line, Random, EXAMPLE};
 use reference::sheet;
+use std::hint::black_box;
 
 /// What stands in lent memory before a call, and in as many bytes on either side of it.
 const UNTOUCHED: u8 = 0xa5;
 const GUARD: usize = 7;
 
-fn expected_stretch(bytes: &[u8], number: u32) -> Stretch {
-    match sheet::stretch(bytes, number) {
-        Ok(s) => Stretch { refusal: 0, start: s.start, gradient: s.gradient.into() },
-        Err(refusal) => Stretch { refusal, start: 0, gradient: 0 },
-    }
+/// A list with as many others on either side of it.
+fn between<T: Copy>(list: &[T], other: T) -> Vec<T> {
+    [&[other; GUARD], list, &[other; GUARD]].concat()
 }
 
-fn expected_signal(bytes: &[u8], number: u32) -> Signal {
-    match sheet::signal(bytes, number) {
-        Ok(s) => Signal { refusal: 0, place: s.place, overlap: s.overlap.into() },
-        Err(refusal) => Signal { refusal, place: 0, overlap: 0 },
-    }
+fn on_line(s: sheet::Stretch) -> Stretch {
+    Stretch { start: Metre(s.start), gradient: PerMille(s.gradient.into()) }
 }
 
-fn expected_move(bytes: &[u8], mark: Mark) -> Move {
-    let nothing = Move { refusal: 0, end: 0, start: 0, gradient: 0, mark: FRESH };
-    match sheet::next(bytes, mark.next) {
-        Ok(Some(s)) => {
-            Move { start: s.start, gradient: s.gradient.into(), mark: Mark { next: mark.next + 1 }, ..nothing }
-        }
-        Ok(None) => Move { end: 1, mark, ..nothing },
-        Err(refusal) => Move { refusal, ..nothing },
-    }
+fn at_line(s: sheet::Signal) -> Signal {
+    Signal { place: Metre(s.place), overlap: Metre(s.overlap.into()) }
 }
 
 /// A number whose six bytes would begin 2 bytes on if the product were cut to 32 bits.
@@ -41,41 +31,71 @@ fn numbers(count: usize) -> impl Iterator<Item = u32> {
     (0..count as u32 + 2).chain([WRAPS, u32::MAX])
 }
 
-fn check_entries(bytes: &[u8], stretches: usize, signals: usize) {
-    for number in numbers(stretches) {
-        assert_eq!(sheet_stretch(bytes, number), expected_stretch(bytes, number), "stretch {number} of {bytes:?}");
+fn check_stretch(bytes: &[u8], number: u32) {
+    let answer = stretch(bytes, number).map_err(Refusal::number);
+    assert_eq!(answer, sheet::stretch(bytes, number).map(on_line), "stretch {number} of {bytes:?}");
+    if let Err(refusal) = answer {
+        assert_eq!(raw::sheet_stretch(bytes, number), raw::Stretch { refusal, start: 0, gradient: 0 });
     }
-    for number in numbers(signals) {
-        let signal = sheet_signal(bytes, number);
-        assert_eq!(signal, expected_signal(bytes, number), "signal {number} of {bytes:?}");
-        assert_eq!(signal, bench::sheet::signal(bytes, number), "the peer: signal {number} of {bytes:?}");
+}
+
+fn check_signal(bytes: &[u8], number: u32) {
+    let answer = signal(bytes, number).map_err(Refusal::number);
+    assert_eq!(answer, sheet::signal(bytes, number).map(at_line), "signal {number} of {bytes:?}");
+    if let Err(refusal) = answer {
+        assert_eq!(raw::sheet_signal(bytes, number), raw::Signal { refusal, place: 0, overlap: 0 });
     }
+}
+
+/// Answers the mark for the next move: none after a refusal.
+fn check_move(bytes: &[u8], mark: Mark) -> Option<Mark> {
+    let answer = mark.moved(bytes).map_err(Refusal::number);
+    let expected = sheet::next(bytes, mark.next).map(|stretch| match stretch {
+        Some(stretch) => (Some(on_line(stretch)), Mark { next: mark.next + 1 }),
+        None => (None, mark),
+    });
+    assert_eq!(answer, expected, "{mark:?} on {bytes:?}");
+    let raw = raw::sheet_next(bytes, raw::Mark { next: mark.next });
+    match answer {
+        Ok((None, _)) => assert_eq!((raw.end, raw.start, raw.gradient), (1, 0, 0)),
+        Ok((Some(_), _)) => assert_eq!(raw.end, 0),
+        Err(refusal) => {
+            assert_eq!(raw, raw::Move { refusal, end: 0, start: 0, gradient: 0, mark: raw::FRESH });
+        }
+    }
+    answer.ok().map(|(_, after)| after)
 }
 
 /// A fresh mark moved past the end and on, then marks that no move hands back.
 fn check_moves(bytes: &[u8], stretches: usize, any: u32) {
-    let mut mark = FRESH;
+    let mut mark = Mark::FRESH;
     for _ in 0..stretches + 3 {
-        let moved = sheet_next(bytes, mark);
-        assert_eq!(moved, expected_move(bytes, mark), "{mark:?} on {bytes:?}");
-        mark = moved.mark;
+        mark = check_move(bytes, mark).unwrap_or(Mark::FRESH);
     }
     for next in [stretches as u32 + 1, any, WRAPS, u32::MAX] {
-        let mark = Mark { next };
-        assert_eq!(sheet_next(bytes, mark), expected_move(bytes, mark), "{mark:?} on {bytes:?}");
+        check_move(bytes, Mark { next });
     }
 }
 
-/// Lends the first `length` bytes of a memory, from an odd place on. Answers whether they were accepted.
+/// The wrapper's own walks.
+fn check_walks(bytes: &[u8], fields: Option<&sheet::Sheet>) {
+    let walked = stretches(bytes).map(Iterator::collect::<Vec<_>>).ok();
+    assert_eq!(walked, fields.map(|sheet| sheet.stretches.iter().copied().map(on_line).collect()));
+    let walked = signals(bytes).map(Iterator::collect::<Vec<_>>).ok();
+    assert_eq!(walked, fields.map(|sheet| sheet.signals.iter().copied().map(at_line).collect()));
+}
+
+/// Lends the first `length` bytes of a memory between others, all of which stay. Answers whether they were accepted.
 fn check(memory: &[u8], length: usize, random: &mut Random) -> bool {
-    let shifted = [&[0], memory].concat();
-    let bytes = &shifted[1..1 + length];
+    let around = between(memory, UNTOUCHED);
+    let bytes = &around[GUARD..GUARD + length];
     let fields = sheet::read(bytes);
     let (stretches, signals) = fields.as_ref().map_or((0, 0), |s| (s.stretches.len(), s.signals.len()));
-    check_entries(bytes, stretches, signals);
+    numbers(stretches).for_each(|number| check_stretch(bytes, number));
+    numbers(signals).for_each(|number| check_signal(bytes, number));
     check_moves(bytes, stretches, random.next() as u32);
-    assert_eq!(bench::sheet::accepts(bytes), fields.is_some(), "the peer: {bytes:?}");
-    assert_eq!(shifted[1..], *memory, "a call has changed the sheet");
+    check_walks(bytes, fields.as_ref());
+    assert_eq!(black_box(&around), &between(memory, UNTOUCHED), "a call has changed bytes");
     fields.is_some()
 }
 
@@ -266,21 +286,41 @@ fn the_example_cut_short() {
     }
 }
 
+/// The wrapper's call with its lists between other numbers, all of which stay.
+fn write_guarded(line: &Line, buffer: &mut [u8]) -> Result<Vec<u8>, u32> {
+    let metres = |numbers: &[u32]| between(&numbers.iter().copied().map(Metre).collect::<Vec<_>>(), Metre(7));
+    let (starts, places) = (metres(&line.starts), metres(&line.places));
+    let (gradients, overlaps) = (between(&line.gradients, 7), between(&line.overlaps, 7));
+    let lists = Lists {
+        starts: &starts[GUARD..starts.len() - GUARD],
+        gradients: &gradients[GUARD..gradients.len() - GUARD],
+        places: &places[GUARD..places.len() - GUARD],
+        overlaps: &overlaps[GUARD..overlaps.len() - GUARD],
+        end: Metre(line.end),
+    };
+    let answer = write(lists, buffer).map(<[u8]>::to_vec).map_err(Refusal::number);
+    let (metres_after, others_after) = black_box(((&starts, &places), (&gradients, &overlaps)));
+    assert_eq!(metres_after, (&metres(&line.starts), &metres(&line.places)), "a list has changed");
+    assert_eq!(others_after, (&between(&line.gradients, 7), &between(&line.overlaps, 7)), "a list has changed");
+    answer
+}
+
 /// The writer between bytes that are not lent: written where the answer says, and nowhere else.
 fn check_write(line: &Line, room: usize) -> u32 {
     let mut memory = vec![UNTOUCHED; room + 2 * GUARD];
     let mut after = memory.clone();
-    let written = sheet_write(line, &mut memory[GUARD..GUARD + room]);
-    let answer = match sheet::write(&line.starts, &line.gradients, &line.places, &line.overlaps, line.end, room) {
-        Ok(sheet) => {
-            after[GUARD..GUARD + sheet.len()].copy_from_slice(&sheet);
-            Written { refusal: 0, length: sheet.len() as u32 }
-        }
-        Err(refusal) => Written { refusal, length: 0 },
-    };
-    assert_eq!(written, answer, "{line:?} into {room} bytes");
+    let answer = write_guarded(line, &mut memory[GUARD..GUARD + room]);
+    let Line { starts, gradients, places, overlaps, end } = line;
+    let expected = sheet::write(starts, gradients, places, overlaps, *end, room);
+    if let Ok(sheet) = &expected {
+        after[GUARD..GUARD + sheet.len()].copy_from_slice(sheet);
+    }
+    assert_eq!(answer, expected, "{line:?} into {room} bytes");
     assert_eq!(memory, after, "{line:?} into {room} bytes");
-    answer.refusal
+    let Err(refusal) = answer else { return 0 };
+    let written = raw::sheet_write(starts, gradients, places, overlaps, *end, &mut vec![0; room]);
+    assert_eq!(written, raw::Written { refusal, length: 0 });
+    refusal
 }
 
 /// One of the four lists longer or shorter than the one it is paired with.
@@ -307,7 +347,7 @@ fn written_between_untouched_bytes() {
             1 => spoilt(&mut random),
             _ => kept(&mut random),
         };
-        let needed = 20 + 6 * (line.starts.len() + line.places.len());
+        let needed = line.length();
         let [more, fewer] = [20, needed as u64].map(|n| random.below(n) as usize);
         for room in [needed, needed + 1 + more, needed - 1, if round % 8 < 4 { 0 } else { fewer }] {
             seen[check_write(&line, room) as usize] += 1;
@@ -327,17 +367,15 @@ fn lists_of_many() {
     }
 }
 
-/// What the library reads from an accepted sheet, over more numbers than it has; the line end stands in its header.
+/// What the library reads from an accepted sheet; the line end stands in its header.
 fn fields(bytes: &[u8]) -> Line {
-    let stretches: Vec<Stretch> =
-        (0..1000).map(|number| sheet_stretch(bytes, number)).take_while(|stretch| stretch.refusal == 0).collect();
-    let signals: Vec<Signal> =
-        (0..1000).map(|number| sheet_signal(bytes, number)).take_while(|signal| signal.refusal == 0).collect();
+    let stretches: Vec<Stretch> = stretches(bytes).expect("an accepted sheet").collect();
+    let signals: Vec<Signal> = signals(bytes).expect("an accepted sheet").collect();
     Line {
-        starts: stretches.iter().map(|stretch| stretch.start).collect(),
-        gradients: stretches.iter().map(|stretch| stretch.gradient.try_into().unwrap()).collect(),
-        places: signals.iter().map(|signal| signal.place).collect(),
-        overlaps: signals.iter().map(|signal| signal.overlap.try_into().unwrap()).collect(),
+        starts: stretches.iter().map(|stretch| stretch.start.0).collect(),
+        gradients: stretches.iter().map(|stretch| stretch.gradient.0.try_into().unwrap()).collect(),
+        places: signals.iter().map(|signal| signal.place.0).collect(),
+        overlaps: signals.iter().map(|signal| signal.overlap.0.try_into().unwrap()).collect(),
         end: u32::from_le_bytes(bytes[16..20].try_into().unwrap()),
     }
 }
@@ -346,11 +384,11 @@ fn fields(bytes: &[u8]) -> Line {
 #[test]
 fn both_round_trips() {
     let mut random = Random(44);
-    assert_eq!(written(&fields(&EXAMPLE)), EXAMPLE);
+    assert_eq!(fields(&EXAMPLE).written(), EXAMPLE);
     for _ in 0..5_000 {
         let line = kept(&mut random);
-        assert_eq!(fields(&written(&line)), line);
+        assert_eq!(fields(&line.written()), line);
         let bytes = laid_out(&line);
-        assert_eq!(written(&fields(&bytes)), bytes);
+        assert_eq!(fields(&bytes).written(), bytes);
     }
 }

@@ -1,4 +1,5 @@
-//! The calls of crates/approach, which take every input: each is safe to call.
+//! The calls as `include/approach.h` declares them, each safe since it takes every input: an answer is the number 0 and its
+//! fields, or a refusal's number and zeros.
 #[repr(C)]
 #[derive(Clone, Copy, Debug, PartialEq, Eq)]
 pub struct Train {
@@ -63,16 +64,6 @@ pub struct Answer {
 /// An answer's marks.
 pub const CURVE: u32 = 1;
 pub const RELEASE: u32 = 2;
-
-/// What a sheet is written from: starts, places, overlaps and the end in metres, gradients in per mille.
-#[derive(Clone, Debug, PartialEq, Eq)]
-pub struct Line {
-    pub starts: Vec<u32>,
-    pub gradients: Vec<i16>,
-    pub places: Vec<u32>,
-    pub overlaps: Vec<u16>,
-    pub end: u32,
-}
 
 /// A start in metres, a gradient in per mille.
 #[repr(C)]
@@ -182,8 +173,15 @@ pub fn ceilings(permitted: u32) -> Limits {
     unsafe { approach_ceilings(permitted) }
 }
 
-pub fn sheet_write(line: &Line, sheet: &mut [u8]) -> Written {
-    let Line { starts, gradients, places, overlaps, end } = line;
+/// Starts, places, overlaps and the end in metres, gradients in per mille.
+pub fn sheet_write(
+    starts: &[u32],
+    gradients: &[i16],
+    places: &[u32],
+    overlaps: &[u16],
+    end: u32,
+    sheet: &mut [u8],
+) -> Written {
     unsafe {
         approach_sheet_write(
             starts.as_ptr(),
@@ -194,7 +192,7 @@ pub fn sheet_write(line: &Line, sheet: &mut [u8]) -> Written {
             places.len(),
             overlaps.as_ptr(),
             overlaps.len(),
-            *end,
+            end,
             sheet.as_mut_ptr(),
             sheet.len(),
         )

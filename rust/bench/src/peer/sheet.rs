@@ -1,6 +1,6 @@
 //! The check of a line sheet as one would write it in Rust: one pass over the bytes, and no copy of them.
 //! What is timed stands behind a call that is not inlined, as the proved one does.
-use crate::library::Signal;
+use approach::raw::Signal;
 
 const HEADER: usize = 20;
 

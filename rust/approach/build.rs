@@ -1,0 +1,7 @@
+//! Links the archive of proved calls, which `rt staticlib approach` writes.
+fn main() {
+    let root = std::path::Path::new(env!("CARGO_MANIFEST_DIR")).join("../../target/staticlib");
+    println!("cargo:rustc-link-search=native={}", root.display());
+    println!("cargo:rustc-link-lib=static=approach");
+    println!("cargo:rerun-if-changed={}", root.join("libapproach.a").display());
+}

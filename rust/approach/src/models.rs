@@ -1,0 +1,131 @@
+//! Stopping distances, ceilings, and the way past a closed signal.
+use crate::raw;
+use crate::refusal::{accepted, Refusal};
+use crate::units::{Ceiling, Hundredth, Kmh, Metre, Millimetre, Millisecond, PerMille};
+use std::fmt;
+use std::str::FromStr;
+
+pub use raw::{Curve, CURVES};
+
+/// Read from `passenger` and `freight`, and shown so.
+#[derive(Clone, Copy, Debug, PartialEq, Eq)]
+pub enum Brake {
+    Passenger,
+    Freight,
+}
+
+impl fmt::Display for Brake {
+    fn fmt(&self, out: &mut fmt::Formatter) -> fmt::Result {
+        out.pad(match self {
+            Brake::Passenger => "passenger",
+            Brake::Freight => "freight",
+        })
+    }
+}
+
+impl FromStr for Brake {
+    type Err = String;
+
+    fn from_str(word: &str) -> Result<Brake, String> {
+        let named = [Brake::Passenger, Brake::Freight].into_iter().find(|brake| brake.to_string() == word);
+        named.ok_or_else(|| format!("the brake type \"{word}\" is neither passenger nor freight"))
+    }
+}
+
+/// A braked weight percentage of 45 to 160 in steps of 5, a length of at most 1,000 m, a top speed of 1 to 330 km/h.
+#[derive(Clone, Copy, Debug, PartialEq, Eq)]
+pub struct Train {
+    pub brake: Brake,
+    /// Whether the electropneumatic brake is working.
+    pub electropneumatic: bool,
+    pub braked_weight: u32,
+    pub length: Metre,
+    pub top_speed: Kmh,
+}
+
+impl From<Train> for raw::Train {
+    fn from(train: Train) -> raw::Train {
+        let Train { brake, electropneumatic, braked_weight, length, top_speed } = train;
+        let freight = brake == Brake::Freight;
+        raw::Train { freight, electropneumatic, braked_weight, length: length.0, top_speed: top_speed.0 }
+    }
+}
+
+/// The four distances, each the least whole millimetre not below the exact one.
+#[derive(Clone, Copy, Debug, PartialEq, Eq)]
+pub struct Distances {
+    pub ebi: Millimetre,
+    pub sbi: Millimetre,
+    pub w: Millimetre,
+    pub p: Millimetre,
+}
+
+impl Distances {
+    pub fn of(self, curve: Curve) -> Millimetre {
+        match curve {
+            Curve::Ebi => self.ebi,
+            Curve::Sbi => self.sbi,
+            Curve::W => self.w,
+            Curve::P => self.p,
+        }
+    }
+}
+
+/// The distances from a speed to a target, on a gradient.
+pub fn step(train: Train, v: Kmh, target: Kmh, gradient: PerMille) -> Result<Distances, Refusal> {
+    let raw::Distances { refusal, ebi, sbi, w, p } = raw::step(train.into(), v.0, target.0, gradient.0);
+    let [ebi, sbi, w, p] = [ebi, sbi, w, p].map(Millimetre);
+    accepted(refusal, Distances { ebi, sbi, w, p })
+}
+
+/// One curve's distances for every speed from the target to the top speed, the target's first, in a lent list. What is
+/// handed back is the part that was written; on a refusal nothing is.
+pub fn row(
+    curve: Curve,
+    train: Train,
+    target: Kmh,
+    gradient: PerMille,
+    list: &mut [Millimetre],
+) -> Result<&[Millimetre], Refusal> {
+    let written = raw::row(curve, train.into(), target.0, gradient.0, numbers(list));
+    accepted(written.refusal, &list[..written.length as usize])
+}
+
+fn numbers(list: &mut [Millimetre]) -> &mut [u32] {
+    // A `Millimetre` is laid out as its number, and every number is one.
+    unsafe { &mut *(list as *mut [Millimetre] as *mut [u32]) }
+}
+
+/// Dead time TM, at most 20 s, and rise time TR, 0.01 to 30 s, of the brake past a signal.
+#[derive(Clone, Copy, Debug, PartialEq, Eq)]
+pub struct Times {
+    pub dead: Hundredth,
+    pub rise: Hundredth,
+}
+
+/// At no moment is the train beyond the distance, and at the given moment it is less than 5 mm short of it.
+#[derive(Clone, Copy, Debug, PartialEq, Eq)]
+pub struct Stop {
+    pub distance: Millimetre,
+    pub moment: Millisecond,
+}
+
+/// How far a train gets that is braked at a closed signal, from a speed of 1 to 100 km/h.
+pub fn ramp(braked_weight: u32, gradient: PerMille, v: Kmh, times: Times) -> Result<Stop, Refusal> {
+    let Times { dead, rise } = times;
+    let raw::Stop { refusal, distance, moment } = raw::ramp(braked_weight, gradient.0, v.0, dead.0, rise.0);
+    accepted(refusal, Stop { distance: Millimetre(distance), moment: Millisecond(moment) })
+}
+
+/// The speeds over which warning, service brake and emergency brake intervene.
+#[derive(Clone, Copy, Debug, PartialEq, Eq)]
+pub struct Ceilings {
+    pub w: Ceiling,
+    pub sbi: Ceiling,
+    pub ebi: Ceiling,
+}
+
+pub fn ceilings(permitted: Kmh) -> Result<Ceilings, Refusal> {
+    let raw::Limits { refusal, w, sbi, ebi } = raw::ceilings(permitted.0);
+    accepted(refusal, Ceilings { w: Ceiling(w), sbi: Ceiling(sbi), ebi: Ceiling(ebi) })
+}

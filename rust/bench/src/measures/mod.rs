@@ -1,0 +1,6 @@
+pub mod query;
+pub mod ramp;
+pub mod sheet;
+pub mod step;
+pub mod timing;
+pub mod wide;

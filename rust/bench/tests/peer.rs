@@ -1,0 +1,105 @@
+//! The peer, with which the library's times are compared, against the reference: it must not be fast by being wrong.
+use approach::raw::{Answer, Distances, Signal, Stop, CURVES};
+use approach::Kmh;
+use bench::peer::{query, ramp, sheet, step};
+use inputs::{on_paper, Random};
+use reference::step::Curve;
+
+#[test]
+fn distances() {
+    let mut random = Random(91);
+    let mut accepted = 0;
+    for _ in 0..60_000 {
+        let (train, gradient, v) = (random.train(), random.gradient(), random.near(0, 330));
+        let v0 = random.below(u64::from(v) + 1) as u32;
+        let Ok([ebi, sbi, w, p]) = reference::step::step(on_paper(train), v, v0, gradient) else { continue };
+        let distances = Distances { refusal: 0, ebi, sbi, w, p };
+        assert_eq!(step::step(train.into(), v, v0, gradient), distances, "{train:?}, V {v}, V0 {v0}, i {gradient}");
+        accepted += 1;
+    }
+    assert!(accepted > 30_000, "{accepted}");
+}
+
+#[test]
+fn rows() {
+    let mut random = Random(95);
+    let mut accepted = 0;
+    for round in 0..600 {
+        let (train, gradient, v0) = (random.train(), random.gradient(), random.below(100) as u32);
+        let (curve, on_curve) = [(Curve::Ebi, CURVES[0]), (Curve::P, CURVES[3])][round % 2];
+        let Ok(expected) = reference::step::row(curve, on_paper(train), v0, gradient, 331) else { continue };
+        let mut row = vec![0; expected.len()];
+        step::row(on_curve, train.into(), v0, gradient, &mut row);
+        assert_eq!(row, expected, "{curve:?}, {train:?}, V0 {v0}, i {gradient}");
+        accepted += 1;
+    }
+    assert!(accepted > 200, "{accepted}");
+}
+
+#[test]
+fn ramp_answers() {
+    let mut random = Random(92);
+    let mut accepted = 0;
+    for _ in 0..30_000 {
+        let (weight, gradient) = (random.braked_weight(), random.gradient());
+        let (v, tm, tr) = (random.near(1, 100), random.near(0, 2000), random.near(1, 3000));
+        let Ok(stop) = reference::ramp::ramp(weight, gradient, v, tm, tr) else { continue };
+        let expected = Stop { refusal: 0, distance: stop.distance, moment: stop.moment };
+        assert_eq!(ramp::ramp(weight, gradient, v, tm, tr), expected, "BW {weight}, i {gradient}, V {v}, {tm}, {tr}");
+        accepted += 1;
+    }
+    assert!(accepted > 15_000, "{accepted}");
+}
+
+/// Half of them with a byte changed.
+fn any_sheet(random: &mut Random) -> Vec<u8> {
+    let (stretches, signals) = (1 + random.below_any(&[12, 512]), random.below_any(&[8, 65]));
+    let mut bytes = random.line(stretches, signals).written();
+    if random.below(2) == 0 {
+        let at = random.below_any(&[20, bytes.len() as u32]) as usize;
+        bytes[at] ^= 1 + random.below(255) as u8;
+    }
+    bytes
+}
+
+#[test]
+fn sheets() {
+    let mut random = Random(93);
+    let mut seen = [0; 12];
+    for _ in 0..6_000 {
+        let (bytes, number) = (any_sheet(&mut random), random.below_any(&[8, 66]));
+        let expected = match reference::sheet::signal(&bytes, number) {
+            Ok(signal) => Signal { refusal: 0, place: signal.place, overlap: signal.overlap.into() },
+            Err(refusal) => Signal { refusal, place: 0, overlap: 0 },
+        };
+        assert_eq!(sheet::signal(&bytes, number), expected, "signal {number} of {bytes:?}");
+        seen[expected.refusal as usize] += 1;
+    }
+    assert!([0, 7, 8].iter().all(|&refusal| seen[refusal] > 500), "{seen:?}");
+}
+
+/// Train and times are accepted: the rest is the peer's to judge.
+#[test]
+fn queries() {
+    let mut random = Random(94);
+    let mut seen = [0; 12];
+    for _ in 0..3_000 {
+        let line = random.short_line();
+        let signal = random.below(line.places.len() as u64 + 1) as u32;
+        let head = random.below_any(&[1, line.end]);
+        let (tm, tr) = (random.below(2001) as u32, 1 + random.below(3000) as u32);
+        let (mut train, sheet) = (random.train(), line.written());
+        train.top_speed = Kmh(1 + random.below(330) as u32);
+        let expected = match reference::approach::approach(on_paper(train), tm, tr, &sheet, signal, head) {
+            Ok(reference::approach::Answer { release, permitted, mark, ceilings: [w, sbi, ebi] }) => {
+                Answer { refusal: 0, release, permitted, mark: mark as u32, w, sbi, ebi }
+            }
+            Err(1..=6) => continue,
+            Err(refusal) => Answer { refusal, release: 0, permitted: 0, mark: 0, w: 0, sbi: 0, ebi: 0 },
+        };
+        let answer = query::query(train.into(), tm, tr, &sheet, signal, head);
+        assert_eq!(answer, expected, "{train:?}, TM {tm}, TR {tr}, {line:?}, signal {signal}, head {head}");
+        seen[expected.refusal as usize] += 1;
+    }
+    assert!([0, 8, 9, 10].iter().all(|&refusal| seen[refusal] > 50), "{seen:?}");
+}
