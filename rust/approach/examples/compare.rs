@@ -160,13 +160,11 @@ mod tests {
         String::from_utf8(out).expect("text")
     }
 
-    /// The right distances are document 01's figures; the README shows this table and what is said of it.
+    /// The right distances are document 01's figures.
     #[test]
     fn a_makers_table() {
         let lines = compared(Curve::Ebi, include_bytes!("makers-table.txt"));
         assert_eq!(lines, include_str!("makers-table.out"));
-        let readme = include_str!("../../../README.md").replace("\n    ", "\n");
-        assert!(readme.contains(&lines), "the README shows another output");
     }
 
     /// 90 km/h to a stop: EBI 842.532 m, P 1,056.282 m.

@@ -119,8 +119,9 @@ fn curve_line(out: &mut String, scale: &Scale, curve: Curve, target: Kmh, distan
     add(out, &format!(r#"<polyline points="{points}" fill="none" stroke="{colour}" stroke-width="2"/>"#));
 }
 
+/// At the lower left, where curves seldom come: far from the target the train is fast.
 fn legend(out: &mut String) {
-    let (x, top) = (RIGHT - 302.0, TOP + 14.0);
+    let (x, top) = (LEFT + 12.0, BOTTOM - 110.0);
     add(out, &format!(r#"<rect x="{x}" y="{top}" width="290" height="98" fill="white" stroke="grey"/>"#));
     for (place, curve) in (0..).zip(CURVES) {
         let y = top + 20.0 + 20.0 * f64::from(place);

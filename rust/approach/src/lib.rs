@@ -58,3 +58,8 @@ pub use models::{ceilings, ramp, row, step, Brake, Ceilings, Curve, Distances, S
 pub use query::{query, Approach, Mark};
 pub use refusal::Refusal;
 pub use units::{Ceiling, Hundredth, Kmh, Metre, Millimetre, Millisecond, PerMille};
+
+/// The README's example is run, too.
+#[cfg(doctest)]
+#[doc = include_str!("../../../README.md")]
+struct Readme;
