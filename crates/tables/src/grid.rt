@@ -9,8 +9,23 @@ const WEIGHTS: [u32; 3] = [45, 100, 160];
 
 const LENGTHS: [u32; 5] = [0, 200, 953, 954, 1000];
 
-// On either side of the thresholds of Ki and of refusal 10, and both ends.
-const GRADIENTS: [i32; 11] = [-35, -22, -21, -20, -19, -18, -1, 0, 1, 10, 35];
+// On either side of the thresholds of Ki and, for the weakest train, of refusal 10 in both models; and both ends.
+const GRADIENTS: [i32; 14] = [
+    -35,
+    -29,
+    -28,
+    -22,
+    -21,
+    -20,
+    -19,
+    -18,
+    -17,
+    -1,
+    0,
+    1,
+    10,
+    35,
+];
 
 // A speed and the target of the same place; the last two are refused.
 const SPEEDS: [u32; 15] = [0, 1, 1, 2, 30, 30, 90, 90, 90, 150, 151, 330, 330, 50, 331];
@@ -34,7 +49,7 @@ pub fn length(k: usize) -> u32 {
 }
 
 pub fn gradient(k: usize) -> i32 {
-    GRADIENTS[k % 11]
+    GRADIENTS[k % 14]
 }
 
 pub fn speed(k: usize) -> u32 {

@@ -35,7 +35,7 @@ fn main() {
         STDOUT_FILENO,
         b"# step freight EP BW L top V V0 i = refusal EBI SBI W P\n",
     );
-    print_table(1, 9900);
+    print_table(1, 12600);
     io::write_all(
         STDOUT_FILENO,
         b"# row curve freight EP BW L top V0 i = refusal length distances\n",
@@ -45,7 +45,7 @@ fn main() {
         STDOUT_FILENO,
         b"# ramp BW i V TM TR = refusal distance moment\n",
     );
-    print_table(3, 2376);
+    print_table(3, 3024);
     io::write_all(STDOUT_FILENO, b"# sheet start i place overlap end number");
     io::write_all(
         STDOUT_FILENO,

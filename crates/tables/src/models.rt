@@ -26,7 +26,7 @@ pub fn step_line(k: usize) {
     let v = grid::speed(k);
     let v0 = grid::target(k);
     let i = grid::gradient(k / 15);
-    let train = grid::train(k / 2475, grid::weight(k / 825), grid::length(k / 165), 160);
+    let train = grid::train(k / 3150, grid::weight(k / 1050), grid::length(k / 210), 160);
     let d = step::step(train, Kmh(v), Kmh(v0), i);
     let ebi = d.ebi;
     let sbi = d.sbi;
@@ -79,7 +79,7 @@ pub fn ramp_line(k: usize) {
     let tr = grid::rise_time(k);
     let v = grid::creep(k / 6);
     let i = grid::gradient(k / 72);
-    let weight = grid::weight(k / 792);
+    let weight = grid::weight(k / 1008);
     let stop = ramp::ramp(weight, i, Kmh(v), tm, tr);
     let distance = stop.distance;
     io::write_all(STDOUT_FILENO, b"ramp");

@@ -1,5 +1,6 @@
 //! Inputs for tests and benchmarks, the same in every run: trains, lines and queries, mostly such as are accepted.
-use approach::{query, sheet, Approach, Brake, Hundredth, Kmh, Metre, Refusal, Times, Train};
+use approach::sheet::{self, write, Lists};
+use approach::{query, Approach, Brake, Hundredth, Kmh, Metre, Refusal, Times, Train};
 use std::collections::BTreeSet;
 
 /// Document 01's example of a sheet, and the train of the program that prints it.
@@ -69,22 +70,15 @@ impl Line {
         sheet::length(self.starts.len(), self.places.len())
     }
 
-    /// By the library.
-    pub fn write<'a>(&self, buffer: &'a mut [u8]) -> Result<&'a [u8], Refusal> {
-        let metres = |numbers: &[u32]| numbers.iter().copied().map(Metre).collect::<Vec<_>>();
-        let (starts, places) = (metres(&self.starts), metres(&self.places));
-        let (gradients, overlaps) = (&self.gradients, &self.overlaps);
-        sheet::write(
-            sheet::Lists { starts: &starts, gradients, places: &places, overlaps, end: Metre(self.end) },
-            buffer,
-        )
-    }
-
     /// The library's sheet of a line that keeps every rule.
     pub fn written(&self) -> Vec<u8> {
+        let metres = |numbers: &[u32]| numbers.iter().copied().map(Metre).collect::<Vec<_>>();
+        let (starts, places) = (metres(&self.starts), metres(&self.places));
+        let (gradients, overlaps, end) = (&self.gradients, &self.overlaps, Metre(self.end));
         // No zeros, so that a byte that is not written shows.
         let mut buffer = vec![0xa5; self.length()];
-        self.write(&mut buffer).expect("a line that keeps every rule").to_vec()
+        let written = write(Lists { starts: &starts, gradients, places: &places, overlaps, end }, &mut buffer);
+        written.expect("a line that keeps every rule").to_vec()
     }
 }
 

@@ -13,7 +13,7 @@ use std::fmt::Display;
 const KINDS: [(bool, bool); 4] = [(false, true), (true, true), (false, false), (true, false)];
 const BRAKED_WEIGHTS: [u32; 3] = [45, 100, 160];
 const LENGTHS: [u32; 5] = [0, 200, 953, 954, 1000];
-const GRADIENTS: [i32; 11] = [-35, -22, -21, -20, -19, -18, -1, 0, 1, 10, 35];
+const GRADIENTS: [i32; 14] = [-35, -29, -28, -22, -21, -20, -19, -18, -17, -1, 0, 1, 10, 35];
 /// V and V0.
 const SPEEDS: [(u32, u32); 15] = [
     (0, 0),
