@@ -54,7 +54,7 @@ fn places(row: &[u32]) {
     }
 }
 
-// A row from 0 or 60 km/h to 330. What it does not need of the lent list stays as it was, 0.
+// A row of EBI, SBI, W or P (0 to 3) from 0 or 60 km/h to 330. What it does not need of the lent list stays as it was, 0.
 pub fn row_line(k: usize) {
     let number = k % 4;
     let v0 = (60 * (k / 4 % 2)) as u32;

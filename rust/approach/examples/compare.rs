@@ -78,7 +78,7 @@ fn entry(line: &str) -> Result<Entry, String> {
     })
 }
 
-/// By how much a distance is short, if at all, and what to say of the line.
+/// What to say of a line whose distance is short, nothing of one that is not, or why it cannot be judged.
 fn judged(curve: Curve, line: &str) -> Result<Option<String>, String> {
     let Entry { train, gradient, target, v, distance } = entry(line)?;
     let ours = step(train, v, target, gradient).map_err(|refusal| refusal.to_string())?.of(curve);
@@ -128,14 +128,14 @@ fn compare(curve: Curve, table: impl BufRead, out: &mut impl Write) -> io::Resul
     for (number, line) in (1..).zip(table.split(b'\n')) {
         count.line(curve, number, &String::from_utf8_lossy(&line?), out)?;
     }
-    writeln!(out, "{} of {} distances short, {} bad lines", count.short, count.judged, count.bad)?;
+    writeln!(out, "judged: {}, short: {}, bad lines: {}", count.judged, count.short, count.bad)?;
     Ok(count)
 }
 
 /// The curve that the arguments name.
 fn named(mut arguments: impl Iterator<Item = String>) -> Option<Curve> {
     let curve = match arguments.next() {
-        Some(name) => CURVES.into_iter().find(|curve| format!("{curve:?}").eq_ignore_ascii_case(&name))?,
+        Some(name) => CURVES.into_iter().find(|curve| curve.to_string().eq_ignore_ascii_case(&name))?,
         None => Curve::Ebi,
     };
     arguments.next().is_none().then_some(curve)
@@ -173,7 +173,7 @@ mod tests {
         let line = |distance: &str| format!("passenger ep 100 200 0 0 90 {distance}\n");
         let short = |curve, distance| compared(curve, line(distance).as_bytes());
         for distance in ["842.532", "842.5320", "842.532000", "842.532001", "843", "0842.532", "99999999"] {
-            assert_eq!(short(Curve::Ebi, distance), "0 of 1 distances short, 0 bad lines\n", "{distance}");
+            assert_eq!(short(Curve::Ebi, distance), "judged: 1, short: 0, bad lines: 0\n", "{distance}");
         }
         for (curve, distance, by) in [
             (Curve::Ebi, "842.531", "1 mm"),
@@ -185,7 +185,7 @@ mod tests {
         ] {
             let said = short(curve, distance);
             assert!(said.contains(&format!(": short by {by}, it takes ")), "{said}");
-            assert!(said.ends_with("1 of 1 distances short, 0 bad lines\n"), "{said}");
+            assert!(said.ends_with("judged: 1, short: 1, bad lines: 0\n"), "{said}");
         }
     }
 
@@ -203,7 +203,7 @@ mod tests {
             ("freight - 100 200 0 0 9.5 1", "cannot read V \"9.5\" as a whole number"),
             ("freight - 100 200 36 0 90 1", "the gradient is not from -35 to 35 per mille (refusal 5)"),
         ] {
-            let said = format!("line 2: bad line: {message}\n0 of 0 distances short, 1 bad lines\n");
+            let said = format!("line 2: bad line: {message}\njudged: 0, short: 0, bad lines: 1\n");
             assert_eq!(compared(Curve::W, format!("\n{line}").as_bytes()), said);
         }
         for distance in ["1,5", "-1", "1.", ".5", "1.0000001", "1e3", "20000000000000000000", "18446744073709552"] {
@@ -215,8 +215,8 @@ mod tests {
     #[test]
     fn what_is_no_text() {
         let said = compared(Curve::Ebi, b"\xff\xfe\n# \xff\n\r\n   \npassenger ep 100 200 0 0 90 1000\r\n");
-        assert_eq!(said, "line 1: bad line: 1 fields where a line has 8\n0 of 1 distances short, 1 bad lines\n");
-        assert_eq!(compared(Curve::Ebi, b""), "0 of 0 distances short, 0 bad lines\n");
+        assert_eq!(said, "line 1: bad line: 1 fields where a line has 8\njudged: 1, short: 0, bad lines: 1\n");
+        assert_eq!(compared(Curve::Ebi, b""), "judged: 0, short: 0, bad lines: 0\n");
     }
 
     #[test]

@@ -34,12 +34,12 @@ const RIGHT: f64 = 930.0;
 const TOP: f64 = 70.0;
 const BOTTOM: f64 = 530.0;
 
-fn name(curve: Curve) -> &'static str {
+fn meaning(curve: Curve) -> &'static str {
     match curve {
-        Curve::Ebi => "EBI: emergency brake intervention",
-        Curve::Sbi => "SBI: service brake intervention",
-        Curve::W => "W: warning",
-        Curve::P => "P: permitted speed",
+        Curve::Ebi => "emergency brake intervention",
+        Curve::Sbi => "service brake intervention",
+        Curve::W => "warning",
+        Curve::P => "permitted speed",
     }
 }
 
@@ -127,7 +127,7 @@ fn legend(out: &mut String) {
         let y = top + 20.0 + 20.0 * f64::from(place);
         let (from, to, colour) = (x + 10.0, x + 40.0, colour(curve));
         add(out, &format!(r#"<line x1="{from}" y1="{y}" x2="{to}" y2="{y}" stroke="{colour}" stroke-width="3"/>"#));
-        text(out, (x + 50.0, y + 4.0), "start", name(curve));
+        text(out, (x + 50.0, y + 4.0), "start", &format!("{curve}: {}", meaning(curve)));
     }
 }
 

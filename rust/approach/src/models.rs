@@ -51,6 +51,17 @@ impl From<Train> for raw::Train {
     }
 }
 
+impl fmt::Display for Curve {
+    fn fmt(&self, out: &mut fmt::Formatter) -> fmt::Result {
+        out.pad(match self {
+            Curve::Ebi => "EBI",
+            Curve::Sbi => "SBI",
+            Curve::W => "W",
+            Curve::P => "P",
+        })
+    }
+}
+
 /// The four distances, each the least whole millimetre not below the exact one.
 #[derive(Clone, Copy, Debug, PartialEq, Eq)]
 pub struct Distances {

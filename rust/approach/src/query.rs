@@ -38,7 +38,12 @@ pub struct Approach {
 pub fn query(train: Train, times: Times, sheet: &[u8], signal: u32, head: Metre) -> Result<Approach, Refusal> {
     let answer = raw::query(train.into(), times.dead.0, times.rise.0, sheet, signal, head.0);
     let raw::Answer { refusal, release, permitted, mark, w, sbi, ebi } = answer;
-    let mark = if mark == raw::RELEASE { Mark::Release } else { Mark::Curve };
+    accepted(refusal, ())?;
+    let mark = match mark {
+        raw::CURVE => Mark::Curve,
+        raw::RELEASE => Mark::Release,
+        _ => unreachable!("an accepted answer has one of two marks"),
+    };
     let ceilings = Ceilings { w: Ceiling(w), sbi: Ceiling(sbi), ebi: Ceiling(ebi) };
-    accepted(refusal, Approach { release: Kmh(release), permitted: Kmh(permitted), mark, ceilings })
+    Ok(Approach { release: Kmh(release), permitted: Kmh(permitted), mark, ceilings })
 }

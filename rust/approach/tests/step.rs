@@ -1,8 +1,6 @@
 //! The library's distances, rows and ceilings against the reference, on accepted and refused inputs.
-use approach::{
-    ceilings, raw, row, step, Brake, Ceilings, Curve, Distances, Kmh, Metre, Millimetre, PerMille, Refusal,
-};
-use approach::{Train, CURVES};
+use approach::{ceilings, raw, row, step, Brake, Ceilings, Curve, Distances, Refusal, Train, CURVES};
+use approach::{Kmh, Metre, Millimetre, PerMille};
 use inputs::{on_paper, Random};
 
 /// What stands in lent memory before a call, and in as many places on either side of it.
@@ -40,7 +38,8 @@ fn distances_at_random() {
         let (t, (v, v0), gradient) = (random.train(), speeds(&mut random), random.gradient());
         seen[check(t, v, v0, gradient) as usize] += 1;
     }
-    for refusal in [0, 1, 2, 3, 4, 5, 10] {
+    assert!(4 * seen[0] >= 1_000_000, "too few distances: {seen:?}");
+    for refusal in [1, 2, 3, 4, 5, 10] {
         assert!(seen[refusal] > 500, "too few answers with {refusal}: {seen:?}");
     }
 }
@@ -55,7 +54,7 @@ fn distances_at_the_thresholds() {
                 let brake = [Brake::Freight, Brake::Passenger][kind & 1];
                 let (length, top_speed) = (Metre(length), Kmh(100));
                 let t = Train { brake, electropneumatic: kind & 2 == 0, braked_weight, length, top_speed };
-                for gradient in [-35, -22, -21, -20, -19, -18, -1, 0, 1, 10, 34, 35] {
+                for gradient in [-35, -22, -21, -20, -19, -18, -17, -1, 0, 1, 10, 34, 35] {
                     for (v, v0) in [
                         (0, 0),
                         (1, 0),
