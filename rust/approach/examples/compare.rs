@@ -32,8 +32,12 @@ struct Entry {
 /// A single distance may be asked for above a train's top speed, so this one serves for all.
 const TOP_SPEED: Kmh = Kmh(330);
 
-fn whole<N: FromStr>(name: &str, field: &str) -> Result<N, String> {
-    field.parse().map_err(|_| format!("cannot read {name} \"{field}\" as a whole number"))
+fn natural(name: &str, field: &str) -> Result<u32, String> {
+    field.parse().map_err(|_| format!("cannot read {name} {field:?} as a whole number from 0 on"))
+}
+
+fn per_mille(field: &str) -> Result<PerMille, String> {
+    field.parse().map(PerMille).map_err(|_| format!("cannot read the gradient {field:?} as a whole number"))
 }
 
 fn digits(text: &str) -> bool {
@@ -44,7 +48,7 @@ impl FromStr for Micrometre {
     type Err = String;
 
     fn from_str(field: &str) -> Result<Micrometre, String> {
-        let bad = || format!("cannot read the distance \"{field}\" as metres, such as 842.532");
+        let bad = || format!("cannot read the distance {field:?} as metres, such as 842.532");
         let (metres, decimals) = field.split_once('.').unwrap_or((field, "0"));
         if !digits(metres) || !digits(decimals) || decimals.len() > DECIMALS {
             return Err(bad());
@@ -65,15 +69,15 @@ fn entry(line: &str) -> Result<Entry, String> {
     let electropneumatic = match ep {
         "ep" => true,
         "-" => false,
-        _ => return Err(format!("\"{ep}\" stands where ep or - is wanted")),
+        _ => return Err(format!("{ep:?} stands where ep or - is wanted")),
     };
-    let braked_weight = whole("the braked weight", braked_weight)?;
-    let length = Metre(whole("the length", length)?);
+    let braked_weight = natural("the braked weight", braked_weight)?;
+    let length = Metre(natural("the length", length)?);
     Ok(Entry {
         train: Train { brake, electropneumatic, braked_weight, length, top_speed: TOP_SPEED },
-        gradient: PerMille(whole("the gradient", gradient)?),
-        target: Kmh(whole("V0", target)?),
-        v: Kmh(whole("V", v)?),
+        gradient: per_mille(gradient)?,
+        target: Kmh(natural("V0", target)?),
+        v: Kmh(natural("V", v)?),
         distance: distance.parse()?,
     })
 }
@@ -195,12 +199,16 @@ mod tests {
             ("passenger ep 100 200 0 0 90", "7 fields where a line has 8"),
             ("passenger ep 100 200 0 0 90 1 m", "9 fields where a line has 8"),
             ("tram ep 100 200 0 0 90 1", "the brake type \"tram\" is neither passenger nor freight"),
+            (
+                "\u{feff}freight - 100 200 0 0 90 1",
+                "the brake type \"\\u{feff}freight\" is neither passenger nor freight",
+            ),
             ("freight yes 100 200 0 0 90 1", "\"yes\" stands where ep or - is wanted"),
-            ("freight - -5 200 0 0 90 1", "cannot read the braked weight \"-5\" as a whole number"),
-            ("freight - 100 4294967296 0 0 90 1", "cannot read the length \"4294967296\" as a whole number"),
+            ("freight - -5 200 0 0 90 1", "cannot read the braked weight \"-5\" as a whole number from 0 on"),
+            ("freight - 100 4294967296 0 0 90 1", "cannot read the length \"4294967296\" as a whole number from 0 on"),
             ("freight - 100 200 flat 0 90 1", "cannot read the gradient \"flat\" as a whole number"),
-            ("freight - 100 200 0 . 90 1", "cannot read V0 \".\" as a whole number"),
-            ("freight - 100 200 0 0 9.5 1", "cannot read V \"9.5\" as a whole number"),
+            ("freight - 100 200 0 . 90 1", "cannot read V0 \".\" as a whole number from 0 on"),
+            ("freight - 100 200 0 0 9.5 1", "cannot read V \"9.5\" as a whole number from 0 on"),
             ("freight - 100 200 36 0 90 1", "the gradient is not from -35 to 35 per mille (refusal 5)"),
         ] {
             let said = format!("line 2: bad line: {message}\njudged: 0, short: 0, bad lines: 1\n");

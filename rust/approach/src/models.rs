@@ -28,7 +28,7 @@ impl FromStr for Brake {
 
     fn from_str(word: &str) -> Result<Brake, String> {
         let named = [Brake::Passenger, Brake::Freight].into_iter().find(|brake| brake.to_string() == word);
-        named.ok_or_else(|| format!("the brake type \"{word}\" is neither passenger nor freight"))
+        named.ok_or_else(|| format!("the brake type {word:?} is neither passenger nor freight"))
     }
 }
 

@@ -103,6 +103,7 @@ pub struct Move {
     pub mark: Mark,
 }
 
+/// Which of the four distances; C has a call for each.
 #[derive(Clone, Copy, Debug, PartialEq, Eq)]
 pub enum Curve {
     Ebi,
