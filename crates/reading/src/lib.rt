@@ -5,6 +5,7 @@ use train::Metre;
 
 pub mod fields;
 pub mod mark;
+pub mod opened;
 
 // A stretch: its start and its gradient in per mille, positive uphill; or a refusal and zeros.
 #[repr(C)]
@@ -33,19 +34,7 @@ pub fn read_stretch(s: &[u8], number: u32) -> Stretch
             gradient: 0,
         };
     }
-    if number >= fields::stretches(s) {
-        return Stretch {
-            refusal: 8,
-            start: Metre(0),
-            gradient: 0,
-        };
-    }
-    let k = number as usize;
-    Stretch {
-        refusal: 0,
-        start: fields::start(s, k),
-        gradient: fields::gradient(s, k),
-    }
+    opened::stretch_of(s, number)
 }
 
 // The signal of that number, from 0.
@@ -59,17 +48,5 @@ pub fn read_signal(s: &[u8], number: u32) -> Signal
             overlap: Metre(0),
         };
     }
-    if number >= fields::signals(s) {
-        return Signal {
-            refusal: 8,
-            place: Metre(0),
-            overlap: Metre(0),
-        };
-    }
-    let k = number as usize;
-    Signal {
-        refusal: 0,
-        place: fields::place(s, k),
-        overlap: fields::overlap(s, k),
-    }
+    opened::signal_of(s, number)
 }

@@ -1,19 +1,23 @@
 -- Lines that agree have the same way; a way's gradients are of the sheet's span; what is turned away.
 use mathlib.Core.Path.{_≡_, refl, sym, _∙_}
-use mathlib.Core.Bool.{true, false}
-use mathlib.Core.List.{List}
+use mathlib.Core.Bool.{true}
+use mathlib.Core.List.{List, [], _∷_}
 use Prim.Native.Nat.{ℕ, _+_, _-_, _≤_, _<_}
 use native.Mathlib.Omega.{arith}
-use borrow.Author.Tests.{le-leb, lt-leb, lt-ltb, le-ltb, ne-eqb}
+use borrow.Author.Tests.{lt-leb, lt-ltb, le-ltb, ne-eqb}
 use mathlib.Core.Logic.{⊎-elim}
-use lib.Dec.{lit≤}
+use lib.Dec.{ltb, lit≤}
 use Rattle.lists.proofs.Split.{below, earlier}
 use Rattle.train.specs.declared.Gradient.{Gradient}
 use Rattle.train.specs.declared.Metre.{Metre}
+use Rattle.train.specs.Refusal.{_gives_}
 use Rattle.train.specs.Units.{metres}
+use Rattle.train.proofs.Refusals.{first-before}
 use Rattle.sheet.specs.Line.{Line}
 use Rattle.sheet.specs.Sheet.{lineOf, accepted}
 use Rattle.sheet.proofs.Kept.{Kept, headed-of}
+use Rattle.reading.specs.Answer.{readRefusals, signalOf}
+use Rattle.reading.proofs.Read.{read-refusal}
 use Rattle.span.specs.Least.{leastOver, LeastOver}
 use Rattle.span.proofs.Points.{same-least}
 use Rattle.way.specs.Way.{pastOf, wayOf, Agree}
@@ -24,23 +28,20 @@ pub slope-of : (l : Line) (from to : ℕ) (g : Gradient) → Kept l → LeastOve
 slope-of l from to g h o = let (k, (m, e)) = o .stretch in record { value = o .value; moderate = rw (← e) (h .stretches .each k (m .held .number) .1) }
 
 module _ (s : List ℕ) (k head : ℕ) where
-  pub no-sheet : accepted s ≡ false → refusal s k head ≡ 7
-  no-sheet e = rw e refl
+  -- no such signal: the read's refusal
+  pub unread : (n : ℕ) → signalOf s k .refusal ≡ n → 0 < n → refusal s k head ≡ n
+  unread n e h = let f = sym (read-refusal s k) ∙ e in first-before (readRefusals s (lineOf s .signals) k) (ltb (lineOf s .place k) head gives 9 ∷ []) (λ z. omega (arith, f)) ∙ f
 
-  module _ (e : accepted s ≡ true) where
-    pub no-signal : lineOf s .signals ≤ k → refusal s k head ≡ 8
-    no-signal h = rw (e, le-leb _ _ h) refl
+  module _ (e : accepted s ≡ true) (h : k < lineOf s .signals) where
+    pub beyond : lineOf s .place k < head → refusal s k head ≡ 9
+    beyond i = rw (e, lt-leb _ _ h, lt-ltb _ _ i) refl
 
-    module _ (h : k < lineOf s .signals) where
-      pub beyond : lineOf s .place k < head → refusal s k head ≡ 9
-      beyond i = rw (e, lt-leb _ _ h, lt-ltb _ _ i) refl
+    pub reached : head ≤ lineOf s .place k → refusal s k head ≡ 0
+    reached i = rw (e, lt-leb _ _ h, le-ltb _ _ i) refl
 
-      pub reached : head ≤ lineOf s .place k → refusal s k head ≡ 0
-      reached i = rw (e, lt-leb _ _ h, le-ltb _ _ i) refl
-
-      -- the signal stands on the line, and its overlap ends there
-      pub on-line : (lineOf s .place k < lineOf s .end) × (lineOf s .place k + lineOf s .overlap k ≤ lineOf s .end)
-      on-line = headed-of s e .1 .signals .each k h
+    -- the signal stands on the line, and its overlap ends there
+    pub on-line : (lineOf s .place k < lineOf s .end) × (lineOf s .place k + lineOf s .overlap k ≤ lineOf s .end)
+    on-line = headed-of s e .1 .signals .each k h
 
 -- the gradient of an overlap
 module _ (l : Line) (place overlap : ℕ) where

@@ -49,15 +49,13 @@ fn past(s: &[u8], place: Metre, overlap: Metre) -> Gradient
 pub fn find(s: &[u8], signal: u32, head: Metre) -> Found
     ensures { λ r. ⌜ Finds (now (s .entry)) signal (head .0) r ⌝ }
 {
-    if !sheet::check::accepts(s) {
-        return Found::Refused(7);
+    let read = reading::read_signal(s, signal);
+    let bad = read.refusal;
+    let place = read.place;
+    let overlap = read.overlap;
+    if bad > 0 {
+        return Found::Refused(bad);
     }
-    if signal >= reading::fields::signals(s) {
-        return Found::Refused(8);
-    }
-    let k = signal as usize;
-    let place = reading::fields::place(s, k);
-    let overlap = reading::fields::overlap(s, k);
     if head.0 > place.0 {
         return Found::Refused(9);
     }
