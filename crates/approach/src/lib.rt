@@ -4,21 +4,23 @@ ghost use Rattle.train.specs.Units.{kmh};
 ghost use Rattle.train.specs.Coefficients.{first};
 ghost use Rattle.train.specs.Gradient.{gradientOf};
 ghost use Rattle.curve.specs.declared.Curve.the-variants.{Ebi, Sbi, W, P};
-ghost use Rattle.step.specs.Answer.{StepAnswers, RowAnswers};
+ghost use Rattle.row.specs.Answer.{RowAnswers};
+ghost use Rattle.step.specs.Answer.{StepAnswers};
 ghost use Rattle.ramp.specs.Answer.{overrun, RampAnswers};
 ghost use Rattle.ceilings.specs.Ceilings.{limitsOf};
 ghost use Rattle.ceilings.specs.Paper.{AsPrinted};
 ghost use Rattle.sheet.specs.Fields.{fourLists};
-ghost use Rattle.reading.specs.Answer.{stretchOf, signalOf, moveOf, Again};
+ghost use Rattle.lookup.specs.Answer.{stretchOf, signalOf};
+ghost use Rattle.reading.specs.Answer.{moveOf, Again};
 ghost use Rattle.writing.specs.Answer.{Writes};
 ghost use Rattle.query.specs.Answer.{QueryAnswers};
 ghost use Rattle.approach.specs.Entered.{trainOf};
 use ceilings::Limits;
 use curve::Curve;
+use lookup::Signal;
+use lookup::Stretch;
 use query::Answer;
 use ramp::Stop;
-use reading::Signal;
-use reading::Stretch;
 use reading::mark::Mark;
 use reading::mark::Move;
 use step::Distances;
@@ -66,7 +68,7 @@ pub extern "C" fn approach_step(train: Entered, v: u32, v0: u32, gradient: i32) 
 fn row_of(curve: Curve, train: Entered, v0: u32, gradient: i32, row: &mut [u32]) -> Written
     ensures { λ r. ⌜ RowAnswers first (trainOf train) (gradientOf gradient) curve (kmh v0) (now (row .entry)) r (now (row .exit)) ⌝ }
 {
-    step::row(curve, train_of(train), Kmh(v0), gradient, row)
+    row::row(curve, train_of(train), Kmh(v0), gradient, row)
 }
 
 #[no_mangle]
@@ -139,14 +141,14 @@ pub extern "C" fn approach_sheet_write(
 pub extern "C" fn approach_sheet_stretch(sheet: &[u8], number: u32) -> Stretch
     ensures { λ r. ⌜ (r ≡ stretchOf (now (sheet .entry)) number) × Again (now (sheet .entry)) (r .refusal) ⌝ }
 {
-    reading::read_stretch(sheet, number)
+    lookup::read_stretch(sheet, number)
 }
 
 #[no_mangle]
 pub extern "C" fn approach_sheet_signal(sheet: &[u8], number: u32) -> Signal
     ensures { λ r. ⌜ (r ≡ signalOf (now (sheet .entry)) number) × Again (now (sheet .entry)) (r .refusal) ⌝ }
 {
-    reading::read_signal(sheet, number)
+    lookup::read_signal(sheet, number)
 }
 
 #[no_mangle]

@@ -1,3 +1,1 @@
 pub mod Climbing
-pub mod Past
-pub mod Fit

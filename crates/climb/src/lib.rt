@@ -1,3 +1,1 @@
-// The two climbs over whole speeds, to the release speed and to the permitted speed. Document 01, "Approach".
-pub mod permitted;
-pub mod release;
+// A climb over whole speeds: definition in specs/, laws in proofs/, no code. Document 01, "Approach".

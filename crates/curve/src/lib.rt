@@ -1,6 +1,6 @@
 // One curve's distance at one pair of speeds, in whole numbers. Document 002, sections 7 and 8.
 ghost use mathlib.Core.Path.{_≡_};
-ghost use Prim.Native.Nat.{_*_, _^_, _≤_};
+ghost use Prim.Native.Nat.{_*_};
 ghost use lib.Dec.{leb};
 ghost use Rattle.exact.specs.Fraction.{_over_, raised};
 ghost use Rattle.wide.specs.Value.{valueOf};
@@ -103,7 +103,7 @@ pub fn distance(curve: Curve, c: Course, m: Motion) -> Millimetre
     ensures { λ r. ⌜ r .0 ≡ raised (sumOf curve c m over valueOf (m .scale)) ⌝ }
 {
     let scale = m.scale;
-    Millimetre(wide::quotient::quotient_up(sum_of(curve, c, m), scale))
+    Millimetre(quotient::quotient_up(sum_of(curve, c, m), scale))
 }
 
 // Whether it is at most d, without a division.

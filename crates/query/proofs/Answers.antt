@@ -24,10 +24,10 @@ use Rattle.way.specs.declared.Found.{Found}
 use Rattle.way.specs.declared.Found.the-variants.{Refused, Ready}
 use Rattle.way.specs.Way.{wayRefusals}
 use Rattle.way.specs.Find.{Finds}
-use Rattle.climb.specs.declared.permitted.Permitted.the-variants.{Weak, Release, Curve}
-use Rattle.climb.specs.Release.{releaseOf, weakPast}
-use Rattle.climb.specs.Permitted.{onCurve, onRelease, permittedOf, markOf}
-use Rattle.climb.specs.Find.{Steady, Permits}
+use Rattle.permitted.specs.declared.Permitted.the-variants.{Weak, Release, Curve}
+use Rattle.release.specs.Release.{releaseOf, weakPast}
+use Rattle.permitted.specs.Permitted.{onCurve, onRelease, permittedOf, markOf}
+use Rattle.permitted.specs.Find.{Steady, Permits}
 use Rattle.query.specs.declared.Answer.{Answer}
 use Rattle.query.specs.Demand.{pastAt}
 use Rattle.query.specs.Answer.{refused, answered, release, brakeRefusals, accepted, inputs, wayTo, queryRefusals, answerOf, QueryAnswers}

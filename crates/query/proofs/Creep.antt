@@ -26,9 +26,9 @@ use Rattle.ramp.specs.Answer.{leeway, Promise, distance, moment, speedRefusals,
 use Rattle.ramp.proofs.Answers.{inputs-fit}
 use Rattle.ramp.proofs.Always.{always}
 use Rattle.way.specs.declared.Way.{Way}
-use Rattle.climb.specs.Release.{stopsWithin, releaseOf, weakPast}
+use Rattle.release.specs.Release.{stopsWithin, releaseOf, weakPast}
 use Rattle.climb.proofs.Climbing.{Highest, highest}
-use Rattle.climb.proofs.Past.{any-speed, no-overlap, release-is, accepted-past}
+use Rattle.release.proofs.Past.{any-speed, no-overlap, release-is, accepted-past}
 use Rattle.query.specs.Demand.{pastAt, place, Safe, Tight}
 use Rattle.query.specs.Begin.{Fit}
 

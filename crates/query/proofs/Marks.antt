@@ -18,10 +18,10 @@ use Rattle.braking.specs.Plan.{Enough}
 use Rattle.braking.specs.Agreement.{IsCourse}
 use Rattle.way.specs.declared.Way.{Way}
 use Rattle.climb.specs.Climb.{climb}
-use Rattle.climb.specs.Permitted.{onCurve, onRelease, fits, permittedOf, markOf}
-use Rattle.climb.specs.Find.{Steady}
+use Rattle.permitted.specs.Permitted.{onCurve, onRelease, fits, permittedOf, markOf}
+use Rattle.permitted.specs.Find.{Steady}
 use Rattle.climb.proofs.Climbing.{highest}
-use Rattle.climb.proofs.Fit as fit
+use Rattle.permitted.proofs.Fit as fit
 use Rattle.query.specs.Demand.{toSignal, exactP, Marked}
 
 module _ (k : Coefficients) (within : Within k) (steady : Steady k) (t : Train) (tm tr : ℕ) (w : Way) (R : ℕ) (c : Course) (is : IsCourse k t (w .ahead) c) (enough : Enough c R R) (low : R ≤ t .top .0) where

@@ -15,9 +15,9 @@ use Rattle.braking.specs.Braking.{strong}
 use Rattle.braking.proofs.Exact.{strong-is}
 use Rattle.braking.proofs.Coursed.{course}
 use Rattle.way.specs.declared.Way.{Way}
-use Rattle.climb.specs.Release.{weakPast}
-use Rattle.climb.specs.Permitted.{permittedOf, markOf}
-use Rattle.climb.specs.Find.{Steady}
+use Rattle.release.specs.Release.{weakPast}
+use Rattle.permitted.specs.Permitted.{permittedOf, markOf}
+use Rattle.permitted.specs.Find.{Steady}
 use Rattle.query.specs.Demand.{pastAt, Demand}
 use Rattle.query.specs.Answer.{release}
 use Rattle.query.specs.Begin.{Fit, FitAhead}

@@ -16,8 +16,8 @@ use Rattle.ramp.specs.Answer.{timeRefusals}
 use Rattle.sheet.specs.Sheet.{lineOf}
 use Rattle.way.specs.declared.Way.{Way}
 use Rattle.way.specs.Way.{wayRefusals, wayOf}
-use Rattle.climb.specs.Release.{releaseOf, weakPast}
-use Rattle.climb.specs.Permitted.{permittedOf, markOf}
+use Rattle.release.specs.Release.{releaseOf, weakPast}
+use Rattle.permitted.specs.Permitted.{permittedOf, markOf}
 use Rattle.query.specs.declared.Answer.{Answer}
 use Rattle.query.specs.Demand.{pastAt, Demand}
 

@@ -16,8 +16,8 @@ use Rattle.ramp.specs.Answer.{timeRefusals}
 use Rattle.way.specs.declared.Way.{Way}
 use Rattle.way.specs.declared.Found.{Found}
 use Rattle.way.specs.declared.Found.the-variants.{Refused, Ready}
-use Rattle.climb.specs.Release.{weakPast}
-use Rattle.climb.specs.Permitted.{permittedOf, markOf}
+use Rattle.release.specs.Release.{weakPast}
+use Rattle.permitted.specs.Permitted.{permittedOf, markOf}
 use Rattle.query.specs.declared.Answer.{Answer}
 use Rattle.query.specs.Demand.{pastAt}
 use Rattle.query.specs.Answer.{refused, answered, release, inputs, wayTo}

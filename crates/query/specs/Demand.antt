@@ -11,7 +11,7 @@ use Rattle.motion.specs.Motion.{placeAt}
 use Rattle.ramp.specs.Answer.{overrun, leeway}
 use Rattle.curve.specs.Step.{P}
 use Rattle.way.specs.declared.Way.{Way}
-use Rattle.climb.specs.Permitted.{onCurve, onRelease}
+use Rattle.permitted.specs.Permitted.{onCurve, onRelease}
 
 -- the motion past the signal at a whole speed: the ramp's, with the train, TM and TR, the gradient of the overlap and place 0 at the signal
 abbrev pub pastAt : Train → ℕ → ℕ → Way → ℕ → Overrun

@@ -1,13 +1,13 @@
 // The approach query: how fast a train may come up to a closed signal, and how fast it may creep past. Document 01, "Approach".
 ghost use mathlib.Core.Path.{_≡_};
 ghost use Rattle.train.specs.Coefficients.{first, Within};
-ghost use Rattle.climb.specs.Find.{Steady};
+ghost use Rattle.permitted.specs.Find.{Steady};
 ghost use Rattle.query.specs.Answer.{refused, answered, QueryAnswers};
 ghost use Rattle.query.specs.Begin.{Starts, Fit, FitAhead, answerAt, answerOn};
 use ceilings::Ceiling;
-use climb::permitted::Permitted;
-use climb::release::Release;
 use motion::Overrun;
+use permitted::Permitted;
+use release::Release;
 use train::Coefficients;
 use train::Gradient;
 use train::Kmh;
@@ -89,7 +89,7 @@ fn answer_at(
     requires { ⌜ Within k × Steady k × FitAhead train ahead release ⌝ }
     ensures { λ r. ⌜ r ≡ answerAt k train ahead distance release ⌝ }
 {
-    let permitted = climb::permitted::speed(k, train, ahead, release, distance);
+    let permitted = permitted::speed(k, train, ahead, release, distance);
     match permitted {
         Permitted::Weak => refused_with(10),
         Permitted::Release => given(release, release, 2),
@@ -114,7 +114,7 @@ fn answer_on(k: Coefficients, train: Train, tm: u32, tr: u32, w: Way) -> Answer
         tm: tm,
         tr: tr,
     };
-    let release = climb::release::speed(k, o, overlap, top);
+    let release = release::speed(k, o, overlap, top);
     match release {
         Release::Weak => refused_with(10),
         Release::Speed(v) => answer_at(k, train, ahead, distance, v),

@@ -1,20 +1,15 @@
--- Document 01, "Step distances" and "What is turned away": what a single distance and a row answer.
+-- Document 01, "Step distances" and "What is turned away": what a single distance answers.
 use mathlib.Core.Path.{_≡_}
 use mathlib.Core.Bool.{not, cond}
 use mathlib.Core.List.{List, [], _∷_, _++_}
-use Prim.Native.Nat.{ℕ, _+_, _-_, _<_}
+use Prim.Native.Nat.{ℕ}
 use lib.Dec.{ltb, eqb}
-use lib.ListN.{length, drop, getD}
-use Rattle.lists.specs.Counted.{upTo}
 use Rattle.exact.specs.Fraction.{whole, _*q_, Least}
 use Rattle.train.specs.declared.Kmh.{Kmh}
 use Rattle.train.specs.declared.Train.{Train}
-use Rattle.train.specs.declared.Written.{Written}
 use Rattle.train.specs.declared.Gradient.{Gradient}
 use Rattle.train.specs.declared.Coefficients.{Coefficients}
-use Rattle.train.specs.Units.{kmh}
 use Rattle.train.specs.Refusal.{Refusal, _gives_, firstOf, trainRefusals, gradientRefusals}
-use Rattle.curve.specs.declared.Curve.{Curve}
 use Rattle.curve.specs.declared.Curve.the-variants.{Ebi, Sbi, W, P}
 use Rattle.braking.specs.Braking.{strong}
 use Rattle.curve.specs.Step.{formula, distance}
@@ -31,10 +26,6 @@ inputs t g v v0 = trainRefusals t ++ (speedRefusals v v0 ++ gradientRefusals g)
 -- a refusal, with zeros
 abbrev pub refused : ℕ → Distances
 refused n = record { refusal = n; ebi = record { 0 = 0 }; sbi = record { 0 = 0 }; w = record { 0 = 0 }; p = record { 0 = 0 } }
-
--- how many speeds from V0 to the top speed
-abbrev pub speeds : Train → Kmh → ℕ
-speeds t v0 = t .top .0 + 1 - v0 .0
 
 module _ (k : Coefficients) (t : Train) (g : Gradient) where
   -- refusal 10
@@ -69,25 +60,3 @@ module _ (k : Coefficients) (t : Train) (g : Gradient) where
   pub record StepAnswers (v v0 : Kmh) (d : Distances) : Type 0 where
     pub answer : d ≡ stepOf v v0
     pub least : d .refusal ≡ 0 → Exact v v0 d
-
-  -- a row in `room` places; refusal 10 is decided at V0
-  abbrev pub rowRefusals : Kmh → ℕ → List Refusal
-  rowRefusals v0 room = (inputs t g (t .top) v0 ++ weak v0 v0) ++ (ltb room (speeds t v0) gives 11 ∷ [])
-
-  -- one curve's distances, V0 first
-  abbrev pub rowOf : Curve → Kmh → List ℕ
-  rowOf c v0 = upTo (λ i. distance k t g (kmh (v0 .0 + i)) v0 c .0) (speeds t v0)
-
-  unfoldable pub rowAnswer : Kmh → ℕ → Written
-  rowAnswer v0 room =
-      cond (eqb (firstOf (rowRefusals v0 room)) 0) (record { refusal = 0; length = speeds t v0 }) (record { refusal = firstOf (rowRefusals v0 room); length = 0 })
-
-  -- the lent list afterwards: the row and the rest as it was, or unchanged
-  unfoldable pub rowAfter : Curve → Kmh → List ℕ → List ℕ
-  rowAfter c v0 lent = cond (eqb (firstOf (rowRefusals v0 (length lent))) 0) (rowOf c v0 ++ drop (speeds t v0) lent) lent
-
-  -- what a row promises: its answer, the lent list afterwards, and the second demand for each place written
-  pub record RowAnswers (c : Curve) (v0 : Kmh) (lent : List ℕ) (w : Written) (after : List ℕ) : Type 0 where
-    pub answer : w ≡ rowAnswer v0 (length lent)
-    pub memory : after ≡ rowAfter c v0 lent
-    pub least : (i : ℕ) → i < w .length → Least (whole 1000 *q formula k t g (kmh (v0 .0 + i)) v0 c) (getD after i 0)

@@ -1,15 +1,11 @@
-// The step model: single distances and rows, with document 002's first values. Document 01, "Step distances".
+// The step model: single distances, with document 002's first values. Document 01, "Step distances".
 ghost use mathlib.Core.Path.{_≡_};
-ghost use Prim.Native.Nat.{ℕ, _+_, _≤_, _<_};
-ghost use mathlib.Core.List.{_++_};
-ghost use lib.ListN.{length, drop};
-ghost use Rattle.lists.specs.Counted.{upTo};
+ghost use Prim.Native.Nat.{_≤_};
 ghost use Rattle.train.specs.Coefficients.{first};
 ghost use Rattle.train.specs.Gradient.{gradientOf};
 ghost use Rattle.train.specs.Refusal.{firstOf};
 ghost use Rattle.braking.specs.Plan.{Small, Near, Enough};
-ghost use Rattle.curve.specs.Plan.{placeOf};
-ghost use Rattle.step.specs.Answer.{inputs, refused, StepAnswers, RowAnswers};
+ghost use Rattle.step.specs.Answer.{inputs, refused, StepAnswers};
 ghost use Rattle.step.specs.Begin.{Starts, placesOf};
 use braking::Course;
 use curve::Curve;
@@ -17,7 +13,6 @@ use train::Gradient;
 use train::Kmh;
 use train::Millimetre;
 use train::Train;
-use train::Written;
 
 // The four distances, or a refusal and zeros.
 #[repr(C)]
@@ -30,7 +25,7 @@ pub struct Distances {
 }
 
 // A refusal, or what the speeds do not change.
-enum Begun {
+pub enum Begun {
     Refused(u32),
     Ready(Course),
 }
@@ -58,7 +53,7 @@ fn turned_away(train: Train, v: Kmh, v0: Kmh, g: Gradient) -> u32
 }
 
 // What stands before every distance. The train is to be strong enough at the speed `at`, which lies between v0 and v.
-fn start(train: Train, v: Kmh, v0: Kmh, at: Kmh, gradient: i32) -> Begun
+pub fn start(train: Train, v: Kmh, v0: Kmh, at: Kmh, gradient: i32) -> Begun
     requires { ⌜ (v0 .0 ≤ v .0 → (v0 .0 ≤ at .0) × (at .0 ≤ v .0)) ⌝ }
     ensures { λ r. ⌜ Starts train (gradientOf gradient) v v0 at r ⌝ }
 {
@@ -110,49 +105,5 @@ pub fn step(train: Train, v: Kmh, v0: Kmh, gradient: i32) -> Distances
     match begun {
         Begun::Refused(n) => refused_with(n),
         Begun::Ready(c) => distances_at(c, v, v0),
-    }
-}
-
-// One curve's distances for n speeds from v0 on.
-fn fill(curve: Curve, c: Course, v0: Kmh, n: usize, out: &mut [u32])
-    requires { ⌜ Small c × ((i : ℕ) → i < n → Enough c (v0 .0 + i) (v0 .0)) × (v0 .0 + n ≤ 331) × (n ≤ length (now out)) ⌝ }
-    ensures { λ r. ⌜ now (out .exit) ≡ upTo (λ i. placeOf curve c (v0 .0 + i) (v0 .0)) n ++ drop n (now (out .entry)) ⌝ }
-{
-    let mut v = v0.0;
-    let mut k: usize = 0;
-    while k < n {
-        let d = curve::distance(curve, c, curve::motion_at(c, Kmh(v), v0));
-        out[k] = d.0;
-        v += 1;
-        k += 1;
-    }
-}
-
-// A row of one curve: its distances from every speed of v0 to the top speed, v0 first.
-pub fn row(curve: Curve, train: Train, v0: Kmh, gradient: i32, out: &mut [u32]) -> Written
-    ensures { λ r. ⌜ RowAnswers first train (gradientOf gradient) curve v0 (now (out .entry)) r (now (out .exit)) ⌝ }
-{
-    let top = train.top;
-    let begun = start(train, top, v0, v0, gradient);
-    match begun {
-        Begun::Refused(n) => Written {
-            refusal: n,
-            length: 0,
-        },
-        Begun::Ready(c) => {
-            let n = top.0 + 1 - v0.0;
-            let places = n as usize;
-            if places > out.len() {
-                return Written {
-                    refusal: 11,
-                    length: 0,
-                };
-            }
-            fill(curve, c, v0, places, out);
-            Written {
-                refusal: 0,
-                length: n,
-            }
-        }
     }
 }

@@ -44,5 +44,5 @@ pub fn place_up(m: Plan, t: u64) -> u32
     // a millimetre, as gain and loss count
     let unit = 1080000000000 * m.tr;
     let place = wide::difference(gain_at(m, t), loss_at(m, t));
-    wide::quotient::quotient_up(place, wide::from_word(unit))
+    quotient::quotient_up(place, wide::from_word(unit))
 }

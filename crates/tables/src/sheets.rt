@@ -39,7 +39,7 @@ fn write(
 }
 
 fn stretch(s: &[u8], number: u32) {
-    let stretch = reading::read_stretch(s, number);
+    let stretch = lookup::read_stretch(s, number);
     let start = stretch.start;
     text::field(stretch.refusal);
     text::field(start.0);
@@ -47,7 +47,7 @@ fn stretch(s: &[u8], number: u32) {
 }
 
 fn signal(s: &[u8], number: u32) {
-    let signal = reading::read_signal(s, number);
+    let signal = lookup::read_signal(s, number);
     let place = signal.place;
     let overlap = signal.overlap;
     text::field(signal.refusal);

@@ -16,8 +16,8 @@ use Rattle.train.proofs.Refusals.{first-before}
 use Rattle.sheet.specs.Line.{Line}
 use Rattle.sheet.specs.Sheet.{lineOf, accepted}
 use Rattle.sheet.proofs.Kept.{Kept, headed-of}
-use Rattle.reading.specs.Answer.{readRefusals, signalOf}
-use Rattle.reading.proofs.Read.{read-refusal}
+use Rattle.lookup.specs.Answer.{readRefusals, signalOf}
+use Rattle.lookup.proofs.Read.{read-refusal}
 use Rattle.span.specs.Least.{leastOver, LeastOver}
 use Rattle.span.proofs.Points.{same-least}
 use Rattle.way.specs.Way.{pastOf, wayOf, Agree}

@@ -49,7 +49,7 @@ fn past(s: &[u8], place: Metre, overlap: Metre) -> Gradient
 pub fn find(s: &[u8], signal: u32, head: Metre) -> Found
     ensures { λ r. ⌜ Finds (now (s .entry)) signal (head .0) r ⌝ }
 {
-    let read = reading::read_signal(s, signal);
+    let read = lookup::read_signal(s, signal);
     let bad = read.refusal;
     let place = read.place;
     let overlap = read.overlap;

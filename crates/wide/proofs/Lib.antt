@@ -1,3 +1,2 @@
-mod Digits
-mod Order
-mod Division
+pub mod Digits
+pub mod Order

@@ -5,7 +5,6 @@ ghost use lib.Dec.{leb};
 ghost use Rattle.wide.specs.Value.{valueOf, limit};
 
 mod column;
-pub mod quotient;
 
 // Three digits of 64 bits, the least first; by its type each is in range.
 #[repr(C)]

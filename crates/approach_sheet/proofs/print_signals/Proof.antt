@@ -1,7 +1,6 @@
 -- `print_signals`: ends after the last signal.
 use borrow.Author.Needs.{needs}
 use Prim.Native.Nat.{_-_, _≤_}
-use native.Mathlib.Omega.{arith}
 use Rattle.approach_sheet.proofs.print_signals.Statement.{statement}
 use Rattle.approach_sheet.proofs.print_signals.Tie as tie
 

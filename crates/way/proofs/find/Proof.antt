@@ -2,13 +2,13 @@
 use borrow.Author.Needs.{needs}
 use denote.Ref.{now}
 use lib.Dec.{lit<}
-use mathlib.Core.Path.{_≡_, sym, subst, ap, _∙_}
+use mathlib.Core.Path.{sym, subst, ap}
 use Prim.Native.Nat.{_+_, _≤_, _<_}
 use native.Mathlib.Omega.{arith}
 use Rattle.train.specs.declared.Metre.{Metre}
 use Rattle.sheet.specs.Sheet.{lineOf}
-use Rattle.reading.specs.declared.Signal.{Signal}
-use Rattle.reading.proofs.Read.{IsSignal, read-signal}
+use Rattle.lookup.specs.declared.Signal.{Signal}
+use Rattle.lookup.proofs.Read.{IsSignal, read-signal}
 use Rattle.way.proofs.Ways.{unread, beyond, reached, on-line, way-of}
 use Rattle.way.proofs.find.Statement.{statement}
 use Rattle.way.proofs.find.Tie as tie

@@ -1,0 +1,4 @@
+pub mod Asked
+pub mod Method
+pub mod Above
+pub mod Read

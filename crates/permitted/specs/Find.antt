@@ -1,0 +1,33 @@
+-- What the code asks for, tests and finds; nobody has to believe this.
+use mathlib.Core.Path.{_≡_}
+use mathlib.Core.Bool.{Bool, true, false}
+use Prim.Native.Nat.{ℕ, _*_, _-_, _^_}
+use lib.Dec.{leb}
+use Rattle.train.specs.declared.Kmh.{Kmh}
+use Rattle.train.specs.declared.Metre.{Metre}
+use Rattle.train.specs.declared.Train.{Train}
+use Rattle.train.specs.declared.Gradient.{Gradient}
+use Rattle.train.specs.declared.Coefficients.{Coefficients}
+use Rattle.braking.specs.declared.Course.{Course}
+use Rattle.braking.specs.Braking.{strong}
+use Rattle.curve.specs.declared.Curve.the-variants.{P}
+use Rattle.curve.specs.Plan.{aOf, sumAt}
+use Rattle.climb.specs.Climb.{climb}
+use Rattle.permitted.specs.declared.Permitted.{Permitted}
+use Rattle.permitted.specs.declared.Permitted.the-variants.{Weak, Release, Curve}
+use Rattle.permitted.specs.Permitted.{fits}
+
+-- nC is 0, as in the first values: the brake is no weaker at a higher speed
+pub record Steady (k : Coefficients) : Type 0 where
+  pub plus : k .nc .plus ≡ 0
+  pub minus : k .nc .minus ≡ 0
+
+-- the fit without a division
+unfoldable pub fitsBy : Course → ℕ → ℕ → ℕ → Bool
+fitsBy c v0 d v = leb (sumAt P c v v0) (81 * 10 ^ 20 * aOf c v v0 * (1000 * d))
+
+module _ (k : Coefficients) (t : Train) (g : Gradient) (v0 : Kmh) (d : Metre) where
+  abbrev pub Permits : Permitted → Type 0
+  Permits Weak = strong k t g v0 v0 ≡ false
+  Permits Release = (strong k t g v0 v0 ≡ true) × (fits k t g v0 d (v0 .0) ≡ false)
+  Permits (Curve v) = (strong k t g v0 v0 ≡ true) × (fits k t g v0 d (v0 .0) ≡ true) × (v .0 ≡ climb (fits k t g v0 d) (v0 .0) (t .top .0 - v0 .0))

@@ -1,0 +1,2 @@
+pub mod Permitted
+pub mod Find

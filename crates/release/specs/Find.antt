@@ -1,0 +1,14 @@
+-- What the code finds; nobody has to believe this.
+use mathlib.Core.Path.{_≡_}
+use mathlib.Core.Bool.{true, false}
+use Rattle.train.specs.declared.Kmh.{Kmh}
+use Rattle.train.specs.declared.Metre.{Metre}
+use Rattle.train.specs.declared.Coefficients.{Coefficients}
+use Rattle.motion.specs.declared.Overrun.{Overrun}
+use Rattle.release.specs.declared.Release.{Release}
+use Rattle.release.specs.declared.Release.the-variants.{Weak, Speed}
+use Rattle.release.specs.Release.{releaseOf, weakPast}
+
+abbrev pub Releases : Coefficients → Overrun → Metre → Kmh → Release → Type 0
+Releases k o overlap top Weak = weakPast k o overlap ≡ true
+Releases k o overlap top (Speed v) = (weakPast k o overlap ≡ false) × (v .0 ≡ releaseOf k o overlap top)
