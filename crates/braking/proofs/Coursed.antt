@@ -8,11 +8,11 @@ use Rattle.train.specs.declared.Gradient.{Gradient}
 use Rattle.train.specs.declared.Coefficients.{Coefficients}
 use Rattle.train.specs.Coefficients.{Within}
 use Rattle.train.specs.Gradient.{Moderate}
-use Rattle.train.specs.Delay.{delay}
-use Rattle.train.specs.Slope.{factor, di, dr}
-use Rattle.train.proofs.Spans.{factor-small}
-use Rattle.train.proofs.Delays.{whole-delay}
-use Rattle.train.proofs.Decelerations.{di-is, dr-is, slope-small}
+use Rattle.delay.specs.Delay.{delay}
+use Rattle.slope.specs.Slope.{factor, di, dr}
+use Rattle.slope.proofs.Factors.{factor-small}
+use Rattle.delay.proofs.Delays.{whole-delay}
+use Rattle.slope.proofs.Decelerations.{di-is, dr-is, slope-small}
 use Rattle.braking.specs.declared.Course.{Course}
 use Rattle.braking.specs.Agreement.{IsCourse}
 use Rattle.braking.proofs.Steady.{T-is, R-is, power-is, delay-small, power-small}

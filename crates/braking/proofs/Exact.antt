@@ -17,7 +17,7 @@ use Rattle.train.specs.declared.Train.{Train}
 use Rattle.train.specs.declared.Gradient.{Gradient}
 use Rattle.train.specs.declared.Coefficients.{Coefficients}
 use Rattle.train.specs.Units.{speed}
-use Rattle.train.specs.Slope.{di}
+use Rattle.slope.specs.Slope.{di}
 use Rattle.braking.specs.declared.Course.{Course}
 use Rattle.braking.specs.Braking.{T, K0, KC, dp, Vβ, strong}
 use Rattle.braking.specs.Plan.{v9, sOf, betaOf, brakeOf, gainOf, lossOf, Enough, strongOf}

@@ -17,8 +17,8 @@ use Rattle.train.specs.declared.Kmh.{Kmh}
 use Rattle.train.specs.declared.Train.{Train}
 use Rattle.train.specs.declared.Gradient.{Gradient}
 use Rattle.train.specs.declared.Coefficients.{Coefficients}
-use Rattle.train.specs.Slope.{di}
-use Rattle.train.proofs.Decelerations.{di-is, dr-is}
+use Rattle.slope.specs.Slope.{di}
+use Rattle.slope.proofs.Decelerations.{di-is, dr-is}
 use Rattle.braking.specs.Braking.{KC, dp, strong}
 use Rattle.braking.specs.declared.Course.{Course}
 use Rattle.braking.specs.Plan.{sOf, Enough}

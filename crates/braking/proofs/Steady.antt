@@ -11,8 +11,8 @@ use Rattle.exact.proofs.Shape.{overE, _+e_, _*e_}
 use Rattle.exact.proofs.Substitution.{≈q-refl, ≈q-sym, becomes, +q-cong, *q-cong}
 use Rattle.train.specs.declared.Train.{Train}
 use Rattle.train.specs.declared.Coefficients.{Coefficients}
-use Rattle.train.specs.Delay.{delay, tf}
-use Rattle.train.specs.Slope.{dr}
+use Rattle.delay.specs.Delay.{delay, tf}
+use Rattle.slope.specs.Slope.{dr}
 use Rattle.braking.specs.Braking.{T, tR}
 
 module _ (k : Coefficients) (t : Train) (d : ℕ) (e : d over 1000000 ≈q delay t) where

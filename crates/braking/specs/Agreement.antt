@@ -5,8 +5,8 @@ use Rattle.exact.specs.Fraction.{signed, _over_, _+q_, _*q_, _≈q_}
 use Rattle.train.specs.declared.Train.{Train}
 use Rattle.train.specs.declared.Gradient.{Gradient}
 use Rattle.train.specs.declared.Coefficients.{Coefficients}
-use Rattle.train.specs.Delay.{tf}
-use Rattle.train.specs.Slope.{di, dr}
+use Rattle.delay.specs.Delay.{tf}
+use Rattle.slope.specs.Slope.{di, dr}
 use Rattle.braking.specs.declared.Course.{Course}
 use Rattle.braking.specs.Braking.{T, tR}
 use Rattle.braking.specs.Plan.{Small}

@@ -7,8 +7,8 @@ use Rattle.train.specs.declared.Train.{Train}
 use Rattle.train.specs.declared.Gradient.{Gradient}
 use Rattle.train.specs.declared.Coefficients.{Coefficients}
 use Rattle.train.specs.Units.{speed}
-use Rattle.train.specs.Delay.{tf}
-use Rattle.train.specs.Slope.{di, dr}
+use Rattle.delay.specs.Delay.{tf}
+use Rattle.slope.specs.Slope.{di, dr}
 use Rattle.train.specs.Refusal.{strongEnough}
 
 -- section 8.1: not h, though its first value is the same

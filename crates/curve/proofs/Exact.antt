@@ -19,8 +19,8 @@ use Rattle.train.specs.declared.Train.{Train}
 use Rattle.train.specs.declared.Gradient.{Gradient}
 use Rattle.train.specs.declared.Coefficients.{Coefficients}
 use Rattle.train.specs.Units.{speed}
-use Rattle.train.specs.Delay.{tf}
-use Rattle.train.specs.Slope.{di}
+use Rattle.delay.specs.Delay.{tf}
+use Rattle.slope.specs.Slope.{di}
 use Rattle.braking.proofs.Exact.{s-pos, speed-is, A-is, Vβ-is}
 use Rattle.curve.specs.declared.Curve.{Curve}
 use Rattle.curve.specs.declared.Curve.the-variants as curve

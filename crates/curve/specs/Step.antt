@@ -6,8 +6,8 @@ use Rattle.train.specs.declared.Train.{Train}
 use Rattle.train.specs.declared.Gradient.{Gradient}
 use Rattle.train.specs.declared.Coefficients.{Coefficients}
 use Rattle.train.specs.Units.{speed, inMillimetres}
-use Rattle.train.specs.Delay.{tf}
-use Rattle.train.specs.Slope.{di}
+use Rattle.delay.specs.Delay.{tf}
+use Rattle.slope.specs.Slope.{di}
 use Rattle.braking.specs.Braking as braking
 use Rattle.braking.specs.Braking.{tR, T, dp}
 use Rattle.curve.specs.declared.Curve.{Curve}

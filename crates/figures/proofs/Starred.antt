@@ -12,8 +12,8 @@ use Rattle.train.specs.declared.Train.{Train}
 use Rattle.train.specs.Units.{kmh, metres, speed}
 use Rattle.train.specs.Coefficients.{first}
 use Rattle.train.specs.Gradient.{gradientOf}
-use Rattle.train.specs.Delay.{passengerDelay, freightDelay, delay, tf}
-use Rattle.train.specs.Slope.{factor, di, dr}
+use Rattle.delay.specs.Delay.{passengerDelay, freightDelay, delay, tf}
+use Rattle.slope.specs.Slope.{factor, di, dr}
 use Rattle.curve.specs.declared.Curve.{Curve}
 use Rattle.curve.specs.declared.Curve.the-variants.{Ebi, Sbi, W, P}
 use Rattle.braking.specs.Braking.{T, K0, KC, dp, Vβ, strong}

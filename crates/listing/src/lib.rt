@@ -15,7 +15,7 @@ use sheet::check::record_keeps;
 fn bits(z: i16) -> u32
     ensures { λ r. ⌜ (r ≡ complement z) × (r < 65536) × (signed r ≡ z) ⌝ }
 {
-    let g = train::slope::gradient_of(z as i32);
+    let g = slope::gradient_of(z as i32);
     let fall = g.fall;
     if fall > 0 { 65536 - fall } else { g.rise }
 }

@@ -11,8 +11,8 @@ use Rattle.exact.proofs.Shape.{shape, wholeE, overE, _*e_}
 use Rattle.exact.proofs.Substitution.{≈q-refl, becomes, *q-cong}
 use Rattle.train.specs.declared.Coefficients.{Coefficients}
 use Rattle.train.specs.Units.{speed}
-use Rattle.train.specs.Slope.{factor, dr}
-use Rattle.train.proofs.Decelerations.{di-is, dr-is}
+use Rattle.slope.specs.Slope.{factor, dr}
+use Rattle.slope.proofs.Decelerations.{di-is, dr-is}
 use Rattle.motion.specs.declared.Overrun.{Overrun}
 use Rattle.motion.specs.declared.Plan.{Plan}
 use Rattle.motion.specs.Motion.{di, dp}

@@ -3,8 +3,8 @@ use mathlib.Core.Bool.{cond}
 use Rattle.exact.specs.Fraction.{Fraction, whole, _over_, _+q_, _-q_, _*q_, _/q_, leq}
 use Rattle.train.specs.declared.Coefficients.{Coefficients}
 use Rattle.train.specs.Units.{speed}
-use Rattle.train.specs.Slope as slope
-use Rattle.train.specs.Slope.{dr}
+use Rattle.slope.specs.Slope as slope
+use Rattle.slope.specs.Slope.{dr}
 use Rattle.motion.specs.declared.Overrun.{Overrun}
 
 -- 0.9 dr: document 000, section 5.2.1, by its product rule

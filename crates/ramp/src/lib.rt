@@ -125,7 +125,7 @@ pub fn ramp(weight: u32, gradient: i32, v: Kmh, tm: u32, tr: u32) -> Stop
 {
     let o = Overrun {
         weight: weight,
-        gradient: train::slope::gradient_of(gradient),
+        gradient: slope::gradient_of(gradient),
         v: v,
         tm: tm,
         tr: tr,

@@ -47,7 +47,7 @@ pub fn least(s: &[u8], from: Metre, to: Metre) -> Gradient
         if start >= last {
             return least;
         }
-        let g = train::slope::gradient_of(step.gradient);
+        let g = slope::gradient_of(step.gradient);
         least = follow(least, first, start, g);
         mark = step.mark;
     }

@@ -57,7 +57,7 @@ pub fn start(train: Train, v: Kmh, v0: Kmh, at: Kmh, gradient: i32) -> Begun
     requires { ⌜ (v0 .0 ≤ v .0 → (v0 .0 ≤ at .0) × (at .0 ≤ v .0)) ⌝ }
     ensures { λ r. ⌜ Starts train (gradientOf gradient) v v0 at r ⌝ }
 {
-    let g = train::slope::gradient_of(gradient);
+    let g = slope::gradient_of(gradient);
     let bad = turned_away(train, v, v0, g);
     if bad > 0 {
         return Begun::Refused(bad);

@@ -4,8 +4,8 @@ use native.Mathlib.Omega.{arith}
 use native.Mathlib.Nat.{le-refl, mul-le-mul}
 use Rattle.train.specs.declared.Coefficients.{Coefficients}
 use Rattle.train.specs.Coefficients.{Within}
-use Rattle.train.proofs.Spans.{factor-small}
-use Rattle.train.proofs.Decelerations.{slope-small}
+use Rattle.slope.proofs.Factors.{factor-small}
+use Rattle.slope.proofs.Decelerations.{slope-small}
 use Rattle.motion.specs.declared.Overrun.{Overrun}
 use Rattle.motion.proofs.Planned.{planned, planOf}
 use Rattle.stopping.specs.Stop.{Fair, Small}

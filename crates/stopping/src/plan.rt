@@ -17,9 +17,9 @@ pub fn plan_of(k: Coefficients, o: Overrun) -> Plan
     let speed = v.0 as u64;
     let tm = o.tm as u64;
     let tr = 10 * o.tr as u64;
-    let pull = train::slope::pull_of(k, o.gradient);
+    let pull = slope::pull_of(k, o.gradient);
     // dp = 0.9 × dr, in 10⁻⁷ m/s²
-    let dp7 = 90 * train::slope::nominal(o.weight);
+    let dp7 = 90 * slope::nominal(o.weight);
     // one km/h is 5/18 m/s, and the speed is in (10⁻¹⁰ m/s) / (18 tr)
     Plan {
         start: 50000000000 * speed * tr,

@@ -1,6 +1,2 @@
-mod Border
-mod Rows
-pub mod Delays
 pub mod Refusals
 pub mod Spans
-pub mod Decelerations

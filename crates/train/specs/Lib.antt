@@ -1,6 +1,4 @@
 pub mod Units
 pub mod Coefficients
 pub mod Gradient
-pub mod Delay
-pub mod Slope
 pub mod Refusal

@@ -2,9 +2,7 @@
 ghost use mathlib.Core.Path.{_≡_};
 ghost use Rattle.train.specs.Coefficients.{first};
 
-pub mod delay;
 pub mod refusal;
-pub mod slope;
 
 // A speed in km/h.
 #[repr(C)]

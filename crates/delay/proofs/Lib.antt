@@ -1,0 +1,2 @@
+mod Rows
+pub mod Delays

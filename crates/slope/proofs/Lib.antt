@@ -1,0 +1,3 @@
+mod Border
+pub mod Factors
+pub mod Decelerations
