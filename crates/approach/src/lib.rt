@@ -40,6 +40,7 @@ pub struct Entered {
     pub top: u32,
 }
 
+// The train that C's record stands for.
 fn train_of(t: Entered) -> Train
     ensures { λ r. ⌜ r ≡ trainOf t ⌝ }
 {

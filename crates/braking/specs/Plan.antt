@@ -8,10 +8,12 @@ use Rattle.braking.specs.declared.Course.{Course}
 unfoldable pub v9 : ℕ → ℕ
 v9 v = v * (25 * 10 ^ 14)
 
+-- V, and 1 at standstill: what V0 is over
 unfoldable pub sOf : ℕ → ℕ
 sOf v = max v 1
 
 module _ (c : Course) where
+  -- Vβ, as fine as v9
   unfoldable pub betaOf : ℕ → ℕ → ℕ
   betaOf v v0 = max (v9 v + 9 * c .dn7 * c .t8 - 9 * c .up7 * c .t8) (v9 v0)
 
@@ -48,6 +50,7 @@ pub record Near (v v0 : ℕ) : Type 0 where
   pub high : v ≤ 330
   pub ahead : v0 ≤ v
 
+-- the most that the deceleration, Vβ and V come to
 abbrev pub aMost : ℕ
 aMost = 2668881600000000
 

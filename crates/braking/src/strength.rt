@@ -29,6 +29,7 @@ fn above(v: Kmh, low: Kmh) -> u64
     if n > m { n - m } else { 0 }
 }
 
+// The strength at one pair of speeds.
 pub fn at(c: Course, v: Kmh, v0: Kmh) -> Strength
     requires { ⌜ Small c × Near (v .0) (v0 .0) ⌝ }
     ensures { λ r. ⌜ (r .unit ≡ sOf (v .0)) × (r .gain ≡ gainOf c (v .0) (v0 .0)) × (r .loss ≡ lossOf c (v .0) (v0 .0)) ⌝ }

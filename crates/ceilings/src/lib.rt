@@ -62,6 +62,7 @@ fn grown(v: Kmh, end: Kmh) -> Kmh
     Kmh(whole)
 }
 
+// One ceiling of a permitted speed.
 fn ceiling_of(v: Kmh, b: Band) -> Ceiling
     requires { ⌜ (v .0 ≤ 330) × Narrow b ⌝ }
     ensures { λ r. ⌜ r ≡ ceilingOf b v ⌝ }
@@ -74,6 +75,7 @@ fn ceiling_of(v: Kmh, b: Band) -> Ceiling
     Ceiling(sum)
 }
 
+// The three ceilings of a permitted speed of 0 to 330 km/h.
 pub fn ceilings(permitted: Kmh) -> Limits
     ensures { λ r. ⌜ (r ≡ limitsOf permitted) × (r .refusal ≡ 0 → AsPrinted permitted r) ⌝ }
 {

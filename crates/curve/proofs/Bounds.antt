@@ -12,9 +12,9 @@ use Rattle.braking.proofs.Bounds.{s-small, gain-small, beta-small, speed-small}
 use Rattle.curve.specs.declared.Curve.{Curve}
 use Rattle.curve.specs.declared.Curve.the-variants.{Ebi, Sbi, W, P}
 use Rattle.braking.specs.declared.Course.{Course}
-use Rattle.curve.specs.declared.Motion.{Motion}
+use Rattle.curve.specs.declared.Terms.{Terms}
 use Rattle.braking.specs.Plan.{v9, sOf, betaOf, Enough, Small, Near, aMost, betaMost, speedMost}
-use Rattle.curve.specs.Plan.{squareOf, serviceOf, warningOf, wayOf, sumOf, IsMotion, Moving}
+use Rattle.curve.specs.Plan.{squareOf, serviceOf, warningOf, runOf, sumOf, IsTerms, Bounded}
 
 pub square-small : (b b0 : ℕ) → b ≤ betaMost → b0 ≤ speedMost → squareOf b b0 ≤ betaMost * (betaMost + speedMost)
 unfolding squareOf
@@ -31,7 +31,7 @@ curve-small W = omega arith
 curve-small P = omega arith
 
 -- the sum of an accepted motion
-module _ (k : Curve) (c : Course) (m : Motion) (sm : Small c) (h : Moving m) where
+module _ (k : Curve) (c : Course) (m : Terms) (sm : Small c) (h : Bounded m) where
   pub steady-small : (serviceOf k * c .r8 ≤ 3800000000) × ((c .t8 + serviceOf k * c .r8 ≤ 8000000000) × (warningOf k * 150000000 ≤ 300000000))
   steady-small =
       let s = curve-small k in
@@ -39,21 +39,21 @@ module _ (k : Curve) (c : Course) (m : Motion) (sm : Small c) (h : Moving m) whe
       let j = sm .t8 in
       (i, (omega arith, omega (arith, s .1)))
 
-  pub way-small : wayOf k c (m .beta) (m .speed) ≤ 8000000000 * betaMost + 300000000 * speedMost
-  unfolding wayOf
-  way-small = let s = steady-small in add-le-add (mul-le-mul (s .1 .0) (h .beta)) (mul-le-mul (s .1 .1) (h .speed))
+  pub run-small : runOf k c (m .beta) (m .speed) ≤ 8000000000 * betaMost + 300000000 * speedMost
+  unfolding runOf
+  run-small = let s = steady-small in add-le-add (mul-le-mul (s .1 .0) (h .beta)) (mul-le-mul (s .1 .1) (h .speed))
 
-  pub way-fits : wayOf k c (m .beta) (m .speed) < limit
+  pub run-fits : runOf k c (m .beta) (m .speed) < limit
   unfolding limit
-  way-fits = lt-of-le-of-lt way-small (lit< tt)
+  run-fits = lt-of-le-of-lt run-small (lit< tt)
 
   -- a sum is at most a times 1.9·10³⁰
   sum-small : sumOf k c m ≤ m .a * (19 * 10 ^ 29)
   unfolding sumOf
   sum-small =
       le-of-mul-le-mul-right {k = 10 ^ 6}
-      (cert (m .a ∷ wayOf k c (m .beta) (m .speed) ∷ valueOf (m .part) ∷ [])
-      (times (num (9 * 10 ^ 6) ⊗ x0) x1 (num (8000000000 * betaMost + 300000000 * speedMost)) way-small (times (num 1) (x2 ⊗ num (10 ^ 6)) (x0 ⊗ num (betaMost * (betaMost + speedMost))) (h .part) done))
+      (cert (m .a ∷ runOf k c (m .beta) (m .speed) ∷ valueOf (m .part) ∷ [])
+      (times (num (9 * 10 ^ 6) ⊗ x0) x1 (num (8000000000 * betaMost + 300000000 * speedMost)) run-small (times (num 1) (x2 ⊗ num (10 ^ 6)) (x0 ⊗ num (betaMost * (betaMost + speedMost))) (h .part) done))
       ((num 9 ⊗ x0 ⊗ x1 ⊕ x2) ⊗ num (10 ^ 6)) (x0 ⊗ num (19 * 10 ^ 29) ⊗ num (10 ^ 6)) refl)
       (lit< tt)
 
@@ -65,8 +65,8 @@ module _ (k : Curve) (c : Course) (m : Motion) (sm : Small c) (h : Moving m) whe
   pub quotient-fits : sumOf k c m ≤ 4294967295 * valueOf (m .scale)
   quotient-fits = rw (h .scale) (le-trans sum-small (cert (m .a ∷ []) done (x0 ⊗ num (19 * 10 ^ 29)) (num 4294967295 ⊗ (num (81 * 10 ^ 20) ⊗ x0)) refl))
 
-pub moving : (c : Course) (v v0 : ℕ) (m : Motion) → Small c → Near v v0 → Enough c v v0 → IsMotion c v v0 m → Moving m
-moving c v v0 m sm n h i =
+pub bounded : (c : Course) (v v0 : ℕ) (m : Terms) → Small c → Near v v0 → Enough c v v0 → IsTerms c v v0 m → Bounded m
+bounded c v v0 m sm n h i =
     let g = gain-small c v v0 sm n .0 in
     let e = i .a in
     let z = s-small v (n .high) in

@@ -25,11 +25,11 @@ use Rattle.braking.proofs.Exact.{s-pos, speed-is, A-is, Vβ-is}
 use Rattle.curve.specs.declared.Curve.{Curve}
 use Rattle.curve.specs.declared.Curve.the-variants as curve
 use Rattle.braking.specs.declared.Course.{Course}
-use Rattle.curve.specs.declared.Motion.{Motion}
+use Rattle.curve.specs.declared.Terms.{Terms}
 use Rattle.braking.specs.Braking.{tR, T, dp, Vβ}
 use Rattle.curve.specs.Step.{EBI, SBI, W, P, formula, distance}
 use Rattle.braking.specs.Plan.{v9, sOf, betaOf, gainOf, lossOf, Enough}
-use Rattle.curve.specs.Plan.{squareOf, wayOf, aOf, sumAt, placeOf, sumOf, IsMotion}
+use Rattle.curve.specs.Plan.{squareOf, runOf, aOf, sumAt, placeOf, sumOf, IsTerms}
 use Rattle.braking.specs.Agreement.{IsCourse}
 
 module _ (k : Coefficients) (t : Train) (g : Gradient) (c : Course) (is : IsCourse k t g c) (v v0 : Kmh) (ahead : v0 .0 ≤ v .0) where
@@ -114,12 +114,12 @@ module _ (k : Coefficients) (t : Train) (g : Gradient) (c : Course) (is : IsCour
     abbrev way : ℕ → ℕ → Expr
     way l n = (x0 ⊕ num l ⊗ x1) ⊗ x2 ⊕ num n ⊗ num 150000000 ⊗ x3
 
-    summed : (x : Curve) {y : Fraction} (n : ℕ) → n ≡ wayOf x c b (v9 (v .0)) → y ≈q dist n → y ≈q sumAt x c (v .0) (v0 .0) over (81 * 10 ^ 23 * a)
+    summed : (x : Curve) {y : Fraction} (n : ℕ) → n ≡ runOf x c b (v9 (v .0)) → y ≈q dist n → y ≈q sumAt x c (v .0) (v0 .0) over (81 * 10 ^ 23 * a)
     unfolding sumAt
     summed x n e h = rw (← e) h
 
     curve-is : (x : Curve) → formula k t g v v0 x ≈q sumAt x c (v .0) (v0 .0) over (81 * 10 ^ 23 * a)
-    unfolding wayOf
+    unfolding runOf
     curve-is curve.Ebi = summed curve.Ebi _ (ring ρ (x0 ⊗ x2) (way 0 0) refl) EBI-is
     curve-is curve.Sbi = summed curve.Sbi _ (ring ρ (x0 ⊗ x2 ⊕ x1 ⊗ x2) (way 1 0) refl) SBI-is
     curve-is curve.W = summed curve.W _ (ring ρ (x0 ⊗ x2 ⊕ x1 ⊗ x2 ⊕ num 150000000 ⊗ x3) (way 1 1) refl) W-is
@@ -170,7 +170,7 @@ module _ (k : Coefficients) (t : Train) (g : Gradient) (c : Course) (is : IsCour
         past n l h = omega arith
 
 -- what a motion has of the sum, and what it stands over
-module _ (x : Curve) (c : Course) (v v0 : ℕ) (m : Motion) (is : IsMotion c v v0 m) where
+module _ (x : Curve) (c : Course) (v v0 : ℕ) (m : Terms) (is : IsTerms c v v0 m) where
   a-is : m .a ≡ aOf c v v0
   unfolding aOf
   a-is = let e = is .a in omega arith

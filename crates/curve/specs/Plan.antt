@@ -7,8 +7,9 @@ use Rattle.braking.specs.declared.Course.{Course}
 use Rattle.braking.specs.Plan.{v9, sOf, betaOf, gainOf, lossOf, aMost, betaMost, speedMost}
 use Rattle.curve.specs.declared.Curve.{Curve}
 use Rattle.curve.specs.declared.Curve.the-variants.{Ebi, Sbi, W, P}
-use Rattle.curve.specs.declared.Motion.{Motion}
+use Rattle.curve.specs.declared.Terms.{Terms}
 
+-- b² - b0²
 unfoldable pub squareOf : ℕ → ℕ → ℕ
 squareOf b b0 = (b - b0) * (b + b0)
 
@@ -25,9 +26,9 @@ warningOf Sbi = 0
 warningOf W = 1
 warningOf P = 2
 
--- the way at the steady speeds b and v, in m / (9·10²³)
-unfoldable pub wayOf : Curve → Course → ℕ → ℕ → ℕ
-wayOf k c b v = (c .t8 + serviceOf k * c .r8) * b + warningOf k * 150000000 * v
+-- the run at the steady speeds b and v, in m / (9·10²³)
+unfoldable pub runOf : Curve → Course → ℕ → ℕ → ℕ
+runOf k c b v = (c .t8 + serviceOf k * c .r8) * b + warningOf k * 150000000 * v
 
 -- a curve's distance at the speeds v and v0 is sumAt over 81·10²⁰ aOf, in mm
 unfoldable pub aOf : Course → ℕ → ℕ → ℕ
@@ -35,23 +36,23 @@ aOf c v v0 = gainOf c v v0 - lossOf c v v0
 
 module _ (k : Curve) (c : Course) (v v0 : ℕ) where
   unfoldable pub sumAt : ℕ
-  sumAt = 9 * aOf c v v0 * wayOf k c (betaOf c v v0) (v9 v) + 50000 * sOf v * squareOf (betaOf c v v0) (v9 v0)
+  sumAt = 9 * aOf c v v0 * runOf k c (betaOf c v v0) (v9 v) + 50000 * sOf v * squareOf (betaOf c v v0) (v9 v0)
 
   unfoldable pub placeOf : ℕ
   placeOf = raised (sumAt over (81 * 10 ^ 20 * aOf c v v0))
 
--- the sum as a motion has it
-unfoldable pub sumOf : Curve → Course → Motion → ℕ
-sumOf k c m = 9 * m .a * wayOf k c (m .beta) (m .speed) + valueOf (m .part)
+-- the sum as its terms have it
+unfoldable pub sumOf : Curve → Course → Terms → ℕ
+sumOf k c m = 9 * m .a * runOf k c (m .beta) (m .speed) + valueOf (m .part)
 
-pub record IsMotion (c : Course) (v v0 : ℕ) (m : Motion) : Type 0 where
+pub record IsTerms (c : Course) (v v0 : ℕ) (m : Terms) : Type 0 where
   pub a : m .a + lossOf c v v0 ≡ gainOf c v v0
   pub beta : m .beta ≡ betaOf c v v0
   pub speed : m .speed ≡ v9 v
   pub part : valueOf (m .part) ≡ 50000 * sOf v * squareOf (betaOf c v v0) (v9 v0)
   pub scale : valueOf (m .scale) ≡ 81 * 10 ^ 20 * m .a
 
-pub record Moving (m : Motion) : Type 0 where
+pub record Bounded (m : Terms) : Type 0 where
   pub some : 0 < m .a
   pub a : m .a ≤ aMost
   pub beta : m .beta ≤ betaMost

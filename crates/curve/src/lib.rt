@@ -5,7 +5,7 @@ ghost use lib.Dec.{leb};
 ghost use Rattle.exact.specs.Fraction.{_over_, raised};
 ghost use Rattle.wide.specs.Value.{valueOf};
 ghost use Rattle.braking.specs.Plan.{Small, Near, Enough};
-ghost use Rattle.curve.specs.Plan.{serviceOf, warningOf, sumOf, IsMotion, Moving};
+ghost use Rattle.curve.specs.Plan.{serviceOf, warningOf, sumOf, IsTerms, Bounded};
 use braking::Course;
 use braking::strength;
 use train::Kmh;
@@ -22,7 +22,7 @@ pub enum Curve {
 
 // What one pair of speeds gives, for every curve: the deceleration in m/s² / (10¹² s), s the greater of V and 1 km/h;
 // Vβ and V in m/s / (9·10¹⁵); the braking part of a sum; what the sum is over to be millimetres.
-pub struct Motion {
+pub struct Terms {
     pub a: u64,
     pub beta: u64,
     pub speed: u64,
@@ -36,10 +36,10 @@ struct Ahead {
     warning: u64,
 }
 
-// The motion of a train that is strong enough.
-pub fn motion_at(c: Course, v: Kmh, v0: Kmh) -> Motion
+// The terms of a train that is strong enough.
+pub fn terms_at(c: Course, v: Kmh, v0: Kmh) -> Terms
     requires { ⌜ Small c × Near (v .0) (v0 .0) × Enough c (v .0) (v0 .0) ⌝ }
-    ensures { λ r. ⌜ IsMotion c (v .0) (v0 .0) r ⌝ }
+    ensures { λ r. ⌜ IsTerms c (v .0) (v0 .0) r ⌝ }
 {
     let speed = strength::fine(v);
     let target = strength::fine(v0);
@@ -52,7 +52,7 @@ pub fn motion_at(c: Course, v: Kmh, v0: Kmh) -> Motion
     let part = wide::times(square, unit as u64);
     // 81·10²⁰ a, in one product
     let scale = wide::product(810 * a, 10000000000000000000);
-    Motion {
+    Terms {
         a: a,
         beta: b,
         speed: speed,
@@ -61,6 +61,7 @@ pub fn motion_at(c: Course, v: Kmh, v0: Kmh) -> Motion
     }
 }
 
+// How often the curve counts them.
 fn ahead_of(curve: Curve) -> Ahead
     ensures { λ r. ⌜ (r .service ≡ serviceOf curve) × (r .warning ≡ warningOf curve) ⌝ }
 {
@@ -85,21 +86,21 @@ fn ahead_of(curve: Curve) -> Ahead
 }
 
 // The distance as a number over m.scale.
-fn sum_of(curve: Curve, c: Course, m: Motion) -> Wide
-    requires { ⌜ Small c × Moving m ⌝ }
+fn sum_of(curve: Curve, c: Course, m: Terms) -> Wide
+    requires { ⌜ Small c × Bounded m ⌝ }
     ensures { λ r. ⌜ valueOf r ≡ sumOf curve c m ⌝ }
 {
     let part = m.part;
     let ahead = ahead_of(curve);
     let steady = wide::product(c.t8 + ahead.service * c.r8, m.beta);
     let warning = wide::product(ahead.warning * 150000000, m.speed);
-    let way = wide::sum(steady, warning);
-    wide::sum(wide::times(way, 9 * m.a), part)
+    let run = wide::sum(steady, warning);
+    wide::sum(wide::times(run, 9 * m.a), part)
 }
 
 // One curve's distance.
-pub fn distance(curve: Curve, c: Course, m: Motion) -> Millimetre
-    requires { ⌜ Small c × Moving m ⌝ }
+pub fn distance(curve: Curve, c: Course, m: Terms) -> Millimetre
+    requires { ⌜ Small c × Bounded m ⌝ }
     ensures { λ r. ⌜ r .0 ≡ raised (sumOf curve c m over valueOf (m .scale)) ⌝ }
 {
     let scale = m.scale;
@@ -107,8 +108,8 @@ pub fn distance(curve: Curve, c: Course, m: Motion) -> Millimetre
 }
 
 // Whether it is at most d, without a division.
-pub fn fits(curve: Curve, c: Course, m: Motion, d: Metre) -> bool
-    requires { ⌜ Small c × Moving m ⌝ }
+pub fn fits(curve: Curve, c: Course, m: Terms, d: Metre) -> bool
+    requires { ⌜ Small c × Bounded m ⌝ }
     ensures { λ r. ⌜ r ≡ leb (sumOf curve c m) (valueOf (m .scale) * (1000 * d .0)) ⌝ }
 {
     let scale = m.scale;

@@ -16,6 +16,7 @@ pub struct DelayRow {
 // Document 002's first values, one row for each brake type.
 const ROWS: [DelayRow; 2] = [DelayRow { a: 350, c: 15 }, DelayRow { a: 1350, c: 4 }];
 
+// A brake type's row.
 fn row_of(brake: BrakeType) -> DelayRow
     ensures { λ r. ⌜ r ≡ rowOf brake ⌝ }
 {

@@ -37,7 +37,7 @@ use denote.Triple.Entry.{Vals, onEntry}
 use denote.Triple.Spec.{Meets, tripleOf}
 use denote.Triple.Walked.{says, needs, Stays, stay-none, stay-none-slice, walkOf, goes-none, goes-none-slice, Walks, ends-at, walked, walk-meets}
 use Rattle.sheet.specs.Sheet.{accepted}
-use Rattle.lookup.specs.Counted.{Counted}
+use Rattle.lookup.specs.Counts.{IsCounts}
 use Rattle.lookup.specs.declared.opened.Sheet.{Sheet}
 use Rattle.lookup.proofs.opened.Sheet as T
 use Rattle.lookup.proofs.opened.Sheet.Laws as T′
@@ -97,7 +97,7 @@ module _ (D : Declared) (L : LL.Laws D) (found : List ℕ → ℕ → row D .Den
 
     -- what `open` promises of its result
     abbrev Opens : Sheet → Type 0
-    Opens r = (r .bytes ≡ s) × Counted (now s) (r .counts)
+    Opens r = (r .bytes ≡ s) × IsCounts (now s) (r .counts)
 
     -- the call of `open`: what it is passed, what it asks, and what is known of its result
     abbrev to-open : Open 𝓤 H A mem run .Ghost
@@ -119,7 +119,7 @@ module _ (D : Declared) (L : LL.Laws D) (found : List ℕ → ℕ → row D .Den
 
     goes : (r : Sheet) (u : Val) → Opens r → ent 𝓤 (⋆ 𝓤 H A (‵ (Opened (κ, tt) .own r (u ∷ [])) ∷ (‵ (flft κ q) ⊛ ‵ ftrue) ∷ [])) (Method Row found 𝓤 H A .pre (to r u))
     goes r u e =
-        qed W (‵ (Opened (κ, tt) .own r (u ∷ [])) ∷ (‵ (flft κ q) ⊛ ‵ ftrue) ∷ []) ∵ says ! (subst (λ (x : RefT (List ℕ)). Counted (now x) (r .counts)) (sym (e .0)) (e .1)) $
+        qed W (‵ (Opened (κ, tt) .own r (u ∷ [])) ∷ (‵ (flft κ q) ⊛ ‵ ftrue) ∷ []) ∵ says ! (subst (λ (x : RefT (List ℕ)). IsCounts (now x) (r .counts)) (sym (e .0)) (e .1)) $
         nothing ! $ owned ! u32 (Is u32) (uint-makes 𝓤 H A W w32) k _ (refl, okk) $ fjoin ! $ move ! (1 ∷ 0 ∷ []) $ fjoin ! $ move ! (1 ∷ 0 ∷ []) $ frame ! $ done !
 
     said : (r : Sheet) (t : Row .Denot) → ent 𝓤 (ensured 𝓤 H A (method Row found) (method-clauses Row found 𝓤) (κ, tt) (r, (k, tt)) tt t) (fact 𝓤 (t ≡ found (now (r .bytes)) k))

@@ -17,7 +17,7 @@ use denote.Triple.Statement.{Contract}
 use denote.Triple.Spec.{tripleOf}
 use denote.Triple.Clauses.{Ended, Clauses, closing}
 use Rattle.sheet.specs.Sheet.{accepted}
-use Rattle.lookup.specs.Counted.{Counted}
+use Rattle.lookup.specs.Counts.{IsCounts}
 use Rattle.lookup.proofs.opened.Counts as counts
 use Rattle.lookup.proofs.opened.Sheet as T
 
@@ -47,10 +47,10 @@ module _ (R : RattleType) (found : List ℕ → ℕ → R .Denot) where
 
   module _ {M : Type 1} (𝓤 : URA M) where
     abbrev pub covered-clauses : Clauses 𝓤 covered
-    covered-clauses κs a = record { ghost = Unit {0}; requires = λ g. fact 𝓤 (Counted (now (a .0)) (a .1 .0)); ensures = λ g r e. fact 𝓤 (r ≡ found (now (a .0)) (a .1 .1 .0)) }
+    covered-clauses κs a = record { ghost = Unit {0}; requires = λ g. fact 𝓤 (IsCounts (now (a .0)) (a .1 .0)); ensures = λ g r e. fact 𝓤 (r ≡ found (now (a .0)) (a .1 .1 .0)) }
 
     abbrev pub method-clauses : Clauses 𝓤 method
-    method-clauses κs a = record { ghost = Unit {0}; requires = λ g. fact 𝓤 (Counted (now (a .0 .bytes)) (a .0 .counts)); ensures = λ g r e. fact 𝓤 (r ≡ found (now (a .0 .bytes)) (a .1 .0)) }
+    method-clauses κs a = record { ghost = Unit {0}; requires = λ g. fact 𝓤 (IsCounts (now (a .0 .bytes)) (a .0 .counts)); ensures = λ g r e. fact 𝓤 (r ≡ found (now (a .0 .bytes)) (a .1 .0)) }
 
     abbrev pub above-clauses : Clauses 𝓤 above
     above-clauses κs a = record { ghost = Unit {0}; requires = λ g. fact 𝓤 (accepted (now (a .0)) ≡ true); ensures = λ g r e. fact 𝓤 (r ≡ found (now (a .0)) (a .1 .0)) }

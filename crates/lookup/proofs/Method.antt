@@ -37,7 +37,7 @@ use denote.Triple.Clauses.{ensured, lasts, closing}
 use denote.Triple.Entry.{Vals, onEntry}
 use denote.Triple.Spec.{Meets}
 use denote.Triple.Walked.{says, needs, Stays, stay-none, walkOf, goes-none, Walks, ends-at, walked, walk-meets}
-use Rattle.lookup.specs.Counted.{Counted}
+use Rattle.lookup.specs.Counts.{IsCounts}
 use Rattle.lookup.specs.declared.opened.Sheet.{Sheet}
 use Rattle.lookup.proofs.opened.Counts as counts
 use Rattle.lookup.proofs.opened.Counts.Laws as counts′
@@ -76,7 +76,7 @@ module _ (D : Declared) (L : LL.Laws D) (found : List ℕ → ℕ → row D .Den
   abbrev stayed : Stays (method Row found .signature .params) (method Row found .kept)
   stayed = (stay-none Opened yes, (stay-none (λ _. u32) yes, tt))
 
-  module _ {M : Type 1} (𝓤 : URA M) (H : Heap 𝓤) (A : Atoms 𝓤) (W : Given 𝓤 H A) (κ : Lft) (q : Share) (d : Sheet) (k : ℕ) (okk : k < 2 ^ 32) (ok : Counted (now (d .bytes)) (d .counts)) where
+  module _ {M : Type 1} (𝓤 : URA M) (H : Heap 𝓤) (A : Atoms 𝓤) (W : Given 𝓤 H A) (κ : Lft) (q : Share) (d : Sheet) (k : ℕ) (okk : k < 2 ^ 32) (ok : IsCounts (now (d .bytes)) (d .counts)) where
     abbrev mach : Val
     mach = T′.lowered d
 

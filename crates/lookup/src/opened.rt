@@ -3,7 +3,7 @@ ghost use mathlib.Core.Path.{_≡_};
 ghost use mathlib.Core.Bool.{true};
 ghost use Rattle.sheet.specs.Sheet.{accepted};
 ghost use Rattle.lookup.specs.Answer.{stretchOf, signalOf};
-ghost use Rattle.lookup.specs.Counted.{Counted};
+ghost use Rattle.lookup.specs.Counts.{IsCounts};
 use super::Signal;
 use super::Stretch;
 use reading::fields;
@@ -24,7 +24,7 @@ pub struct Sheet<'a> {
 // The counts of an accepted sheet.
 pub fn counts_of(s: &[u8]) -> Counts
     requires { ⌜ accepted (now s) ≡ true ⌝ }
-    ensures { λ r. ⌜ Counted (now (s .entry)) r ⌝ }
+    ensures { λ r. ⌜ IsCounts (now (s .entry)) r ⌝ }
 {
     Counts {
         stretches: fields::stretches(s),
@@ -34,7 +34,7 @@ pub fn counts_of(s: &[u8]) -> Counts
 
 // The stretch of that number, or refusal 8.
 pub fn nth_stretch(s: &[u8], counts: Counts, number: u32) -> Stretch
-    requires { ⌜ Counted (now s) counts ⌝ }
+    requires { ⌜ IsCounts (now s) counts ⌝ }
     ensures { λ r. ⌜ r ≡ stretchOf (now (s .entry)) number ⌝ }
 {
     if number >= counts.stretches {
@@ -54,7 +54,7 @@ pub fn nth_stretch(s: &[u8], counts: Counts, number: u32) -> Stretch
 
 // The signal of that number, or refusal 8.
 pub fn nth_signal(s: &[u8], counts: Counts, number: u32) -> Signal
-    requires { ⌜ Counted (now s) counts ⌝ }
+    requires { ⌜ IsCounts (now s) counts ⌝ }
     ensures { λ r. ⌜ r ≡ signalOf (now (s .entry)) number ⌝ }
 {
     if number >= counts.signals {
@@ -75,7 +75,7 @@ pub fn nth_signal(s: &[u8], counts: Counts, number: u32) -> Signal
 // Opens an accepted sheet.
 pub fn open<'a>(bytes: &'a [u8]) -> Sheet<'a>
     requires { ⌜ accepted (now bytes) ≡ true ⌝ }
-    ensures { λ r. ⌜ (r .bytes ≡ bytes .entry) × Counted (now (bytes .entry)) (r .counts) ⌝ }
+    ensures { λ r. ⌜ (r .bytes ≡ bytes .entry) × IsCounts (now (bytes .entry)) (r .counts) ⌝ }
 {
     let counts = counts_of(bytes);
     Sheet { bytes, counts }
@@ -84,7 +84,7 @@ pub fn open<'a>(bytes: &'a [u8]) -> Sheet<'a>
 impl<'a> Sheet<'a> {
     // The stretch of that number, or refusal 8.
     pub fn stretch(self, number: u32) -> Stretch
-        requires { ⌜ Counted (now (self .bytes)) (self .counts) ⌝ }
+        requires { ⌜ IsCounts (now (self .bytes)) (self .counts) ⌝ }
         ensures { λ r. ⌜ r ≡ stretchOf (now (self .entry .bytes)) number ⌝ }
     {
         nth_stretch(self.bytes, self.counts, number)
@@ -92,7 +92,7 @@ impl<'a> Sheet<'a> {
 
     // The signal of that number, or refusal 8.
     pub fn signal(self, number: u32) -> Signal
-        requires { ⌜ Counted (now (self .bytes)) (self .counts) ⌝ }
+        requires { ⌜ IsCounts (now (self .bytes)) (self .counts) ⌝ }
         ensures { λ r. ⌜ r ≡ signalOf (now (self .entry .bytes)) number ⌝ }
     {
         nth_signal(self.bytes, self.counts, number)

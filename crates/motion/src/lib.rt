@@ -1,4 +1,4 @@
-// The motion of a train past a closed signal: document 01, "Ramp". Definitions and laws; the code that uses them is in `ramp`.
+// The motion of a train past a closed signal: document 01, "Ramp". Definitions and laws; the code that uses them is in `stopping` and `ramp`.
 use train::Gradient;
 use train::Kmh;
 

@@ -27,7 +27,7 @@ fn fits(c: Course, v: Kmh, v0: Kmh, d: Metre) -> bool
     requires { ⌜ Small c × Near (v .0) (v0 .0) × Enough c (v .0) (v0 .0) ⌝ }
     ensures { λ r. ⌜ r ≡ fitsBy c (v0 .0) (d .0) (v .0) ⌝ }
 {
-    curve::fits(Curve::P, c, curve::motion_at(c, v, v0), d)
+    curve::fits(Curve::P, c, curve::terms_at(c, v, v0), d)
 }
 
 // The climb from v0, which fits.

@@ -15,7 +15,7 @@ use Rattle.train.specs.declared.Train.{Train}
 use Rattle.train.specs.declared.Coefficients.{Coefficients}
 use Rattle.train.specs.Units.{kmh}
 use Rattle.train.specs.Coefficients.{Within}
-use Rattle.train.specs.Refusal.{firstOf, weightRefusals, lengthRefusals, gradientRefusals}
+use Rattle.train.specs.Refusal.{firstOf, weightRefusals, lengthAndTopRefusals, gradientRefusals}
 use Rattle.train.proofs.Refusals.{weight-rising, first-after, none-before}
 use Rattle.motion.specs.declared.Overrun.{Overrun}
 use Rattle.motion.specs.Motion.{placeAt}
@@ -49,7 +49,7 @@ module _ (t : Train) (tm tr : ℕ) (w : Way) (f : Fit t tm tr w) where
   -- but for its brake, the ramp accepts the motion past the signal
   pub inputs-past : firstOf (ramp.inputs (past 1)) ≡ 0
   inputs-past =
-      first-after 0 (weightRefusals (t .weight)) (speedRefusals (kmh 1) ++ (gradientRefusals (w .past) ++ timeRefusals tm tr)) (weight-rising (t .weight)) (none-before (weightRefusals (t .weight)) (lengthRefusals t) (f .train))
+      first-after 0 (weightRefusals (t .weight)) (speedRefusals (kmh 1) ++ (gradientRefusals (w .past) ++ timeRefusals tm tr)) (weight-rising (t .weight)) (none-before (weightRefusals (t .weight)) (lengthAndTopRefusals t) (f .train))
       ∙ rw (le-ltb 35 (w .past .rise) (f .past .rise), le-ltb 35 (w .past .fall) (f .past .fall)) (f .times)
 
   -- every place is a number

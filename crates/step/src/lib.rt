@@ -87,7 +87,7 @@ fn distances_at(c: Course, v: Kmh, v0: Kmh) -> Distances
     requires { ⌜ Small c × Near (v .0) (v0 .0) × Enough c (v .0) (v0 .0) ⌝ }
     ensures { λ r. ⌜ r ≡ placesOf c v v0 ⌝ }
 {
-    let m = curve::motion_at(c, v, v0);
+    let m = curve::terms_at(c, v, v0);
     Distances {
         refusal: 0,
         ebi: curve::distance(Curve::Ebi, c, m),

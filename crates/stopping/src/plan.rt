@@ -9,6 +9,7 @@ use motion::Overrun;
 use motion::Plan;
 use train::Coefficients;
 
+// The plan of an overrun.
 pub fn plan_of(k: Coefficients, o: Overrun) -> Plan
     requires { ⌜ Within k × Fair o ⌝ }
     ensures { λ r. ⌜ IsPlan k o r × Small r ⌝ }

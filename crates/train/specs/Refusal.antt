@@ -24,11 +24,11 @@ abbrev pub weightRefusals : ℕ → List Refusal
 weightRefusals w = ltb w 45 gives 1 ∷ ltb 160 w gives 1 ∷ ltb 0 (w % 5) gives 1 ∷ []
 
 -- a length of 0 to 1,000, a top speed of 1 to 330
-abbrev pub lengthRefusals : Train → List Refusal
-lengthRefusals t = ltb 1000 (t .length .0) gives 2 ∷ ltb (t .top .0) 1 gives 3 ∷ ltb 330 (t .top .0) gives 3 ∷ []
+abbrev pub lengthAndTopRefusals : Train → List Refusal
+lengthAndTopRefusals t = ltb 1000 (t .length .0) gives 2 ∷ ltb (t .top .0) 1 gives 3 ∷ ltb 330 (t .top .0) gives 3 ∷ []
 
 abbrev pub trainRefusals : Train → List Refusal
-trainRefusals t = weightRefusals (t .weight) ++ lengthRefusals t
+trainRefusals t = weightRefusals (t .weight) ++ lengthAndTopRefusals t
 
 -- -35 to 35
 abbrev pub gradientRefusals : Gradient → List Refusal

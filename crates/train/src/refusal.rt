@@ -4,6 +4,7 @@ ghost use Rattle.train.specs.Refusal.{firstOf, weightRefusals, trainRefu
 use super::Gradient;
 use super::Train;
 
+// Of a braked weight percentage: 1.
 pub fn of_weight(weight: u32) -> u32
     ensures { λ r. ⌜ r ≡ firstOf (weightRefusals weight) ⌝ }
 {
@@ -19,6 +20,7 @@ pub fn of_weight(weight: u32) -> u32
     0
 }
 
+// Of a train: 1, 2 or 3.
 pub fn of_train(train: Train) -> u32
     ensures { λ r. ⌜ r ≡ firstOf (trainRefusals train) ⌝ }
 {
@@ -40,6 +42,7 @@ pub fn of_train(train: Train) -> u32
     0
 }
 
+// Of a gradient: 5.
 pub fn of_gradient(g: Gradient) -> u32
     ensures { λ r. ⌜ r ≡ firstOf (gradientRefusals g) ⌝ }
 {

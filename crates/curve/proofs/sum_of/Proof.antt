@@ -6,8 +6,8 @@ use native.Mathlib.Nat.{mul-comm, le-add-right, lt-of-le-of-lt}
 use native.Mathlib.Omega.{arith}
 use Rattle.wide.specs.Value.{valueOf, limit}
 use Rattle.braking.specs.Plan.{aMost}
-use Rattle.curve.specs.Plan.{wayOf, sumOf}
-use Rattle.curve.proofs.Bounds.{steady-small, way-fits, sum-fits}
+use Rattle.curve.specs.Plan.{runOf, sumOf}
+use Rattle.curve.proofs.Bounds.{steady-small, run-fits, sum-fits}
 use Rattle.curve.proofs.sum_of.Statement.{statement}
 use Rattle.curve.proofs.sum_of.Tie as tie
 
@@ -40,25 +40,25 @@ product-requires-2 : tie.Need-product-requires-2
 product-requires-2 c κs = search needs
 
 -- the way, as it is summed
-way-is : (c : tie.After-product2) → let s = c .before .before .before .before .before .before .before .before in
-    valueOf (c .before .before .product .result) + valueOf (c .product2 .result) ≡ wayOf (s .args .curve) (s .args .c) (s .args .m .beta) (s .args .m .speed)
-unfolding wayOf
-way-is c =
+run-is : (c : tie.After-product2) → let s = c .before .before .before .before .before .before .before .before in
+    valueOf (c .before .before .product .result) + valueOf (c .product2 .result) ≡ runOf (s .args .curve) (s .args .c) (s .args .m .beta) (s .args .m .speed)
+unfolding runOf
+run-is c =
     let a = c .before .before .before .before .before .before in
     rw (c .before .before .product .ensures, c .product2 .ensures, a .ahead-of .ensures .0, a .ahead-of .ensures .1)
 
 sum-requires : tie.Need-sum-requires
 sum-requires c κs =
     let s = c .before .before .before .before .before .before .before .before in
-    rw (way-is c) (way-fits (s .args .curve) (s .args .c) (s .args .m) (s .pre .0) (s .pre .1))
+    rw (run-is c) (run-fits (s .args .curve) (s .args .c) (s .args .m) (s .pre .0) (s .pre .1))
 
 mul-times : tie.Need-mul-times
 mul-times c = record { fits = nine _ (c .before .before .before .before .before .before .before .before .before .before .pre .1 .a) }
 
 -- and times 9 a
 term-is : (c : tie.After-sum) → let s = c .before .before .before .before .before .before .before .before .before in
-    valueOf (c .sum .result) * (9 * s .args .m .a) ≡ 9 * s .args .m .a * wayOf (s .args .curve) (s .args .c) (s .args .m .beta) (s .args .m .speed)
-term-is c = rw (c .sum .ensures ∙ way-is (c .before)) (mul-comm _ _)
+    valueOf (c .sum .result) * (9 * s .args .m .a) ≡ 9 * s .args .m .a * runOf (s .args .curve) (s .args .c) (s .args .m .beta) (s .args .m .speed)
+term-is c = rw (c .sum .ensures ∙ run-is (c .before)) (mul-comm _ _)
 
 whole-fits : (c : tie.After-sum) → let s = c .before .before .before .before .before .before .before .before .before in
     valueOf (c .sum .result) * (9 * s .args .m .a) + valueOf (s .args .m .part) < limit

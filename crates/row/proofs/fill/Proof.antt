@@ -8,7 +8,7 @@ use borrow.Author.Needs.{needs}
 use denote.Ref.{now}
 use Rattle.braking.specs.Plan.{Small, Near, Enough}
 use Rattle.curve.specs.Plan.{placeOf}
-use Rattle.curve.proofs.Bounds.{moving}
+use Rattle.curve.proofs.Bounds.{bounded}
 use Rattle.curve.proofs.Exact.{place-is}
 use Rattle.lists.specs.Counted.{upTo}
 use Rattle.lists.proofs.Places.{longer, filled}
@@ -36,14 +36,14 @@ ready c =
     let p = s .pre .2 in
     (s .pre .0, record { high = omega (arith, c .loop-test .taken); ahead = omega arith }, rw e (s .pre .1 (l .k) (c .loop-test .taken)))
 
-motion-at-requires : tie.Need-motion-at-requires Inv-loop μ-loop
-motion-at-requires c κs = ready c
+terms-at-requires : tie.Need-terms-at-requires Inv-loop μ-loop
+terms-at-requires c κs = ready c
 
 distance-requires : tie.Need-distance-requires Inv-loop μ-loop
 distance-requires c κs =
     let r = ready (c .before) in
     let s = c .before .before .before .before in
-    (r .0, moving (s .args .c) (c .before .before .loop .v) (s .args .v0 .0) (c .motion-at .result) (r .0) (r .1) (r .2) (c .motion-at .ensures))
+    (r .0, bounded (s .args .c) (c .before .before .loop .v) (s .args .v0 .0) (c .terms-at .result) (r .0) (r .1) (r .2) (c .terms-at .ensures))
 
 mul-out : tie.Need-mul-out Inv-loop μ-loop
 mul-out c = search needs
@@ -67,7 +67,7 @@ written c =
     let s = c .before .before .before .before .before in
     let l = c .before .before .before .loop in
     c .distance .ensures
-    ∙ place-is (s .args .curve) (s .args .c) (l .v) (s .args .v0 .0) (c .before .motion-at .result) (c .before .motion-at .ensures)
+    ∙ place-is (s .args .curve) (s .args .c) (l .v) (s .args .v0 .0) (c .before .terms-at .result) (c .before .terms-at .ensures)
     ∙ ap (λ v. placeOf (s .args .curve) (s .args .c) v (s .args .v0 .0)) (l .inv .2)
 
 loop-again : tie.Need-loop-again Inv-loop μ-loop
@@ -100,7 +100,7 @@ fill-spec =
     Inv-loop
     μ-loop
     loop-holds
-    motion-at-requires
+    terms-at-requires
     distance-requires
     mul-out
     slice-write-out

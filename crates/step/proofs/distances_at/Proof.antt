@@ -6,25 +6,25 @@ use Rattle.wide.specs.Value.{valueOf}
 use Rattle.curve.specs.declared.Curve.{Curve}
 use Rattle.curve.specs.declared.Curve.the-variants.{Ebi, Sbi, W, P}
 use Rattle.braking.specs.Plan.{Small}
-use Rattle.curve.specs.Plan.{Moving, sumOf, placeOf}
-use Rattle.curve.proofs.Bounds.{moving}
+use Rattle.curve.specs.Plan.{Bounded, sumOf, placeOf}
+use Rattle.curve.proofs.Bounds.{bounded}
 use Rattle.curve.proofs.Exact.{place-is}
 use Rattle.step.proofs.distances_at.Statement.{statement}
 use Rattle.step.proofs.distances_at.Tie as tie
 
-going : (c : tie.After-motion-at) → Small (c .before .args .c) × Moving (c .motion-at .result)
+going : (c : tie.After-terms-at) → Small (c .before .args .c) × Bounded (c .terms-at .result)
 going c =
     let a = c .before .args in
     let p = c .before .pre in
-    (p .0, moving (a .c) (a .v .0) (a .v0 .0) (c .motion-at .result) (p .0) (p .1) (p .2) (c .motion-at .ensures))
+    (p .0, bounded (a .c) (a .v .0) (a .v0 .0) (c .terms-at .result) (p .0) (p .1) (p .2) (c .terms-at .ensures))
 
 -- a curve's distance is the plan's
-place : (c : tie.After-motion-at) (x : Curve) (n : ℕ) → let a = c .before .args in let m = c .motion-at .result in
+place : (c : tie.After-terms-at) (x : Curve) (n : ℕ) → let a = c .before .args in let m = c .terms-at .result in
     n ≡ raised (sumOf x (a .c) m over valueOf (m .scale)) → n ≡ placeOf x (a .c) (a .v .0) (a .v0 .0)
-place c x n e = let a = c .before .args in e ∙ place-is x (a .c) (a .v .0) (a .v0 .0) (c .motion-at .result) (c .motion-at .ensures)
+place c x n e = let a = c .before .args in e ∙ place-is x (a .c) (a .v .0) (a .v0 .0) (c .terms-at .result) (c .terms-at .ensures)
 
-motion-at-requires : tie.Need-motion-at-requires
-motion-at-requires c κs = c .pre
+terms-at-requires : tie.Need-terms-at-requires
+terms-at-requires c κs = c .pre
 
 distance-requires : tie.Need-distance-requires
 distance-requires c κs = going c
@@ -46,4 +46,4 @@ returns c =
 pub distances-at-spec : {M : Type 1} → statement M
 distances-at-spec =
     tie.close
-    (tie.spec motion-at-requires distance-requires distance-requires-2 distance-requires-3 distance-requires-4 returns)
+    (tie.spec terms-at-requires distance-requires distance-requires-2 distance-requires-3 distance-requires-4 returns)

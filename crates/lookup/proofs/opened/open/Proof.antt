@@ -38,7 +38,7 @@ use denote.Triple.Spec.{Meets, tripleOf}
 use denote.Triple.Table.{entered, cited}
 use denote.Triple.Walked.{says, needs, Stays, stay-none-slice, walkOf, goes-none-slice, Walks, ends-at, walked, walk-meets}
 use Rattle.sheet.specs.Sheet.{accepted}
-use Rattle.lookup.specs.Counted.{Counted}
+use Rattle.lookup.specs.Counts.{IsCounts}
 use Rattle.lookup.specs.declared.opened.Counts.{Counts}
 use Rattle.lookup.specs.declared.opened.Sheet.{Sheet}
 use Rattle.lookup.proofs.opened.Counts as counts
@@ -87,10 +87,10 @@ module _ {M : Type 1} (𝓤 : URA M) (H : Heap 𝓤) (A : Atoms 𝓤) (W : Given
       move ! (1 ∷ []) $ fsplit ! $ use1 W (‵ Own ⊛ ‵ Own) (shr-slice-copy 𝓤 H A W (named 0) κ u8 .twice s (v ∷ [])) $ split ! $ move ! (0 ∷ 2 ∷ []) $ fjoin ! $ move ! (2 ∷ 0 ∷ []) $
       use2 W (raw (CountsOf 𝓤 H A mem run .pre to)) (qed W ((‵ (flft κ q) ⊛ ‵ ftrue) ∷ ‵ (owns (ShrSlice (named 0) κ u8 ∷ []) (s, tt) (v ∷ [], tt)) ∷ []) ∵ says ! ok $ frame ! $ done !) $ frame ! $ done !
 
-  said : (c : Counts) → ent 𝓤 (ensured 𝓤 H A counts-of.ended (counts-of.clauses 𝓤 H A mem run) (κ, tt) (s, tt) tt c) (fact 𝓤 (Counted (now s) c))
-  said c = exE 𝓤 _ (λ ws. snd∗ 𝓤 (sem 𝓤 H A (lasts counts-of.ended (κ, tt) (s, tt) ws)) (fact 𝓤 (Counted (now s) c)))
+  said : (c : Counts) → ent 𝓤 (ensured 𝓤 H A counts-of.ended (counts-of.clauses 𝓤 H A mem run) (κ, tt) (s, tt) tt c) (fact 𝓤 (IsCounts (now s) c))
+  said c = exE 𝓤 _ (λ ws. snd∗ 𝓤 (sem 𝓤 H A (lasts counts-of.ended (κ, tt) (s, tt) ws)) (fact 𝓤 (IsCounts (now s) c)))
 
-  exits : (c : Counts) → Counted (now s) c → ent 𝓤 (⋆ 𝓤 H A (‵ (counts.the-row .own c (counts′.lowered c ∷ [])) ∷ (‵ (flft κ q) ⊛ ‵ ftrue) ∷ ‵ Own ∷ [])) (Post (T′.lowered (made c)))
+  exits : (c : Counts) → IsCounts (now s) c → ent 𝓤 (⋆ 𝓤 H A (‵ (counts.the-row .own c (counts′.lowered c ∷ [])) ∷ (‵ (flft κ q) ⊛ ‵ ftrue) ∷ ‵ Own ∷ [])) (Post (T′.lowered (made c)))
   exits c e =
       qed W (‵ (counts.the-row .own c (counts′.lowered c ∷ [])) ∷ (‵ (flft κ q) ⊛ ‵ ftrue) ∷ ‵ Own ∷ []) ∵
       suffices ! _ (ends-at 𝓤 H A opn.ended stayed (opn.clauses 𝓤 H A mem run) W (((κ, tt), (q, tt), tt, (s, tt), (v ∷ [], tt)), tt) (T′.lowered (made c)) (made c) (tt, tt) (tt, tt)) $ says ! (refl, e) $
@@ -110,7 +110,7 @@ module _ {M : Type 1} (𝓤 : URA M) (H : Heap 𝓤) (A : Atoms 𝓤) (W : Given
         move ! (6 ∷ []) $ use1 W (raw (CountsOf 𝓤 H A mem run .pre to) ⊛ ‵ Own) goes $ split ! $
         calls-at ! fm (CountsOf 𝓤 H A mem run) known to (and-then ! (load ! (from ! (stop !)) (look ! 4 refl)) (no-more !)) (λ u.
         use1 W (later (some (λ (c : Counts). ((‵ (flft κ q) ⊛ ‵ ftrue) ⊛ ‵ (counts.the-row .own c (u ∷ []))) ⊛ raw (ensured 𝓤 H A counts-of.ended (counts-of.clauses 𝓤 H A mem run) (κ, tt) (s, tt) tt c)))) (id⊢ 𝓤 _) $ await ! tt $ pick ! (λ c.
-        split ! $ move ! (1 ∷ []) $ use1 W (raw (fact 𝓤 (Counted (now s) c))) (said c) $ heard ! (Counted (now s) c) (λ e. split ! $ move ! (1 ∷ []) $
+        split ! $ move ! (1 ∷ []) $ use1 W (raw (fact 𝓤 (IsCounts (now s) c))) (said c) $ heard ! (IsCounts (now s) c) (λ e. split ! $ move ! (1 ∷ []) $
         -- [what the counts own; the token; what s owns; room for _2; …; _1; …; room for _0; …]
         peeks ! counts.the-row (Is counts.the-row) (shows 𝓤 H A counts.the-row) c (u ∷ []) (λ is.
         let are = LL.lawful counts.the-type counts′.the-laws 𝓤 H A W .typed c _ is .0 in

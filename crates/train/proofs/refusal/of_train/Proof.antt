@@ -4,16 +4,16 @@ use Prim.Native.Nat.{ℕ}
 use borrow.Author.Needs.{needs}
 use borrow.Author.Tests.{lt-ltb, le-ltb}
 use native.Mathlib.Omega.{arith}
-use Rattle.train.specs.Refusal.{firstOf, weightRefusals, lengthRefusals, trainRefusals}
+use Rattle.train.specs.Refusal.{firstOf, weightRefusals, lengthAndTopRefusals, trainRefusals}
 use Rattle.train.proofs.Refusals.{weight-rising, first-after, first-before}
 use Rattle.train.proofs.refusal.of_train.Statement.{statement}
 use Rattle.train.proofs.refusal.of_train.Tie as tie
 
 -- where the braked weight is not turned away
-after : (c : tie.Else1) (n : ℕ) → let t = c .before .before .before .before .args .train in firstOf (lengthRefusals t) ≡ n → n ≡ firstOf (trainRefusals t)
+after : (c : tie.Else1) (n : ℕ) → let t = c .before .before .before .before .args .train in firstOf (lengthAndTopRefusals t) ≡ n → n ≡ firstOf (trainRefusals t)
 after c n e =
     let t = c .before .before .before .before .args .train in
-    sym (first-after 0 (weightRefusals (t .weight)) (lengthRefusals t) (weight-rising (t .weight)) (omega (arith, c .if1 .left, c .before .of-weight .ensures)) ∙ e)
+    sym (first-after 0 (weightRefusals (t .weight)) (lengthAndTopRefusals t) (weight-rising (t .weight)) (omega (arith, c .if1 .left, c .before .of-weight .ensures)) ∙ e)
 
 of-weight-requires : tie.Need-of-weight-requires
 of-weight-requires c κs = search needs
@@ -21,7 +21,7 @@ of-weight-requires c κs = search needs
 returns : tie.Need-returns
 returns c =
     let t = c .before .before .before .before .args .train in
-    c .before .of-weight .ensures ∙ sym (first-before (weightRefusals (t .weight)) (lengthRefusals t) (λ z. omega (arith, c .if1 .taken, c .before .of-weight .ensures)))
+    c .before .of-weight .ensures ∙ sym (first-before (weightRefusals (t .weight)) (lengthAndTopRefusals t) (λ z. omega (arith, c .if1 .taken, c .before .of-weight .ensures)))
 
 returns-2 : tie.Need-returns-2
 returns-2 c = after (c .before .before) 2 (simp (lt-ltb _ _ (c .if2 .taken)))

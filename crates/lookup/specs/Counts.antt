@@ -6,7 +6,7 @@ use Prim.Native.Nat.{ℕ}
 use Rattle.sheet.specs.Sheet.{lineOf, accepted}
 use Rattle.lookup.specs.declared.opened.Counts.{Counts}
 
-pub record Counted (s : List ℕ) (c : Counts) : Type 0 where
+pub record IsCounts (s : List ℕ) (c : Counts) : Type 0 where
   pub sheet : accepted s ≡ true
   pub stretches : c .stretches ≡ lineOf s .stretches
   pub signals : c .signals ≡ lineOf s .signals

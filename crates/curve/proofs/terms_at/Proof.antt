@@ -1,4 +1,4 @@
--- `motion_at`: the products fit, and each number is the plan's.
+-- `terms_at`: the products fit, and each number is the plan's.
 use mathlib.Core.Path.{_≡_, _∙_}
 use Prim.Native.Nat.{_≤_}
 use borrow.Author.Needs.{needs}
@@ -9,8 +9,8 @@ use Rattle.braking.specs.Plan.{aMost, betaMost, speedMost}
 use Rattle.braking.proofs.Bounds.{s-small, gain-small, beta-small, speed-small}
 use Rattle.curve.specs.Plan.{squareOf}
 use Rattle.curve.proofs.Bounds.{part-fits}
-use Rattle.curve.proofs.motion_at.Statement.{statement}
-use Rattle.curve.proofs.motion_at.Tie as tie
+use Rattle.curve.proofs.terms_at.Statement.{statement}
+use Rattle.curve.proofs.terms_at.Tie as tie
 
 unit-small : (c : tie.After-at) → c .at .result .unit ≤ 330
 unit-small c = let s = c .before .before .before in rw (c .at .ensures .0) (s-small (s .args .v .0) (s .pre .1 .high) .0)
@@ -94,8 +94,8 @@ returns c =
       scale = c .product2 .ensures ∙ omega arith;
     }
 
-pub motion-at-spec : {M : Type 1} → statement M
-motion-at-spec =
+pub terms-at-spec : {M : Type 1} → statement M
+terms-at-spec =
     tie.close
     (tie.spec
     fine-requires
