@@ -6,7 +6,7 @@ use lib.IntN.{ℤ, pos, negsuc}
 use mir.Syntax.{w16}
 use mir.Val.{SFits}
 use Rattle.train.specs.Gradient.{gradientOf}
-use Rattle.sheet.specs.Bytes.{complement}
+use Rattle.line.specs.Bytes.{complement}
 
 pub fall-fits : (z : ℤ) → SFits w16 z → gradientOf z .fall ≤ 65536
 fall-fits (pos n) f = omega arith

@@ -2,9 +2,9 @@
 use mathlib.Core.List.{List}
 use Prim.Native.Nat.{ℕ}
 use lib.IntN.{ℤ}
-use Rattle.sheet.specs.declared.Table.{Table}
-use Rattle.sheet.specs.declared.Table.the-variants.{Stretches, Signals}
-use Rattle.sheet.specs.Records.{KeepsItself}
+use Rattle.line.specs.declared.Table.{Table}
+use Rattle.line.specs.declared.Table.the-variants.{Stretches, Signals}
+use Rattle.line.specs.Records.{KeepsItself}
 use Rattle.listing.specs.Lists.{Same, Rule}
 
 pub to-rule : (t : Table) (gs : List ℤ) (os : List ℕ) (end x y k : ℕ) → Same t gs os k y → KeepsItself t end x y → Rule t gs os end x k

@@ -5,9 +5,9 @@ use Prim.Native.Nat.{ℕ, _+_, _≤_, _<_}
 use lib.IntN.{ℤ, pos}
 use lib.ListN.{length, getD}
 use Rattle.train.specs.Gradient.{gradientOf, Moderate}
-use Rattle.sheet.specs.declared.Table.{Table}
-use Rattle.sheet.specs.declared.Table.the-variants.{Stretches, Signals}
-use Rattle.sheet.specs.Bytes.{signed, complement}
+use Rattle.line.specs.declared.Table.{Table}
+use Rattle.line.specs.declared.Table.the-variants.{Stretches, Signals}
+use Rattle.line.specs.Bytes.{signed, complement}
 
 -- how many records a table has by its second list, and the two bytes of its k-th
 abbrev pub countOf : Table → List ℤ → List ℕ → ℕ

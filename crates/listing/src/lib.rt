@@ -2,14 +2,14 @@
 ghost use mathlib.Core.Path.{_≡_};
 ghost use Prim.Native.Nat.{_≤_, _<_};
 ghost use lib.ListN.{length, getD};
-ghost use Rattle.sheet.specs.Bytes.{signed, complement};
-ghost use Rattle.sheet.specs.Line.{farthestEnd};
-ghost use Rattle.sheet.specs.Records.{Decides, Along};
+ghost use Rattle.line.specs.Bytes.{signed, complement};
+ghost use Rattle.line.specs.Line.{farthestEnd};
+ghost use Rattle.line.specs.Records.{Decides, Along};
 ghost use Rattle.sheet.specs.Fields.{fourLists, writable};
 ghost use Rattle.listing.specs.Lists.{countOf, secondOf, Same, Rule};
-use sheet::Table;
-use sheet::check::counts_keep;
-use sheet::check::record_keeps;
+use line::Table;
+use line::rules::counts_keep;
+use line::rules::record_keeps;
 
 // Two's complement of 16 bits.
 fn bits(z: i16) -> u32

@@ -8,7 +8,7 @@ use native.Mathlib.Omega.{arith}
 use native.Mathlib.Numerals.{add-one}
 use borrow.Author.Tests.{lt-ltb, le-ltb}
 use Rattle.lists.proofs.Split.{below}
-use Rattle.sheet.specs.Line.{Line}
+use Rattle.line.specs.Line.{Line}
 use Rattle.sheet.specs.Sheet.{lineOf, accepted}
 use Rattle.reading.specs.declared.mark.Mark.{Mark}
 use Rattle.reading.specs.declared.mark.Move.{Move}

@@ -6,7 +6,7 @@ use Prim.Native.Nat.{ℕ, zero, suc, _+_}
 use lib.Dec.{ltb}
 use lib.IntN.{pos}
 use Rattle.train.specs.Units.{metres}
-use Rattle.sheet.specs.Line.{Line}
+use Rattle.line.specs.Line.{Line}
 use Rattle.sheet.specs.Sheet.{lineOf, accepted}
 use Rattle.sheet.specs.Fields.{sheetOf, fieldsOf}
 use Rattle.reading.specs.declared.mark.Mark.{Mark}

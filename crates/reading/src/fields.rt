@@ -4,10 +4,10 @@ ghost use mathlib.Core.Bool.{true};
 ghost use Prim.Native.Nat.{_+_, _*_, _≤_, _<_};
 ghost use lib.ListN.{length};
 ghost use Rattle.train.specs.Units.{metres};
-ghost use Rattle.sheet.specs.Bytes.{u16At, signed};
+ghost use Rattle.line.specs.Bytes.{u16At, signed};
 ghost use Rattle.sheet.specs.Sheet.{signalOffset, lineOf, accepted};
-use sheet::bytes::u16_at;
-use sheet::bytes::u32_at;
+use line::bytes::u16_at;
+use line::bytes::u32_at;
 use train::Metre;
 
 // Two's complement of two bytes.

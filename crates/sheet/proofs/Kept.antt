@@ -1,25 +1,19 @@
 -- A line keeps the paper's rules just where its counts, its first start and the records of both tables keep theirs.
-use mathlib.Core.Path.{_≡_, sym, subst}
+use mathlib.Core.Path.{_≡_}
 use mathlib.Core.Bool.{true, and-true}
 use mathlib.Core.List.{List, [], _∷_, _++_}
-use mathlib.Core.Logic.{⊎-elim}
-use Prim.Native.Nat.{ℕ, zero, suc, _+_, _-_, _≤_, _<_}
+use Prim.Native.Nat.{ℕ, suc, _+_, _-_, _≤_, _<_}
 use native.Mathlib.Omega.{arith}
 use borrow.Author.Tests.{lt-ltb, ltb-true, le-leb, leb-true, eq-eqb, eqb-true}
 use lib.Dec.{leb}
 use lib.IntN.{ℤ}
 use Rattle.lists.specs.Counted.{allHold}
 use Rattle.lists.proofs.Holding.{and-left, and-right, every-at, every-of, each-of, all-of}
-use Rattle.lists.proofs.Split.{earlier}
 use Rattle.train.specs.Gradient.{gradientOf, Moderate}
-use Rattle.sheet.specs.declared.Table.{Table}
-use Rattle.sheet.specs.declared.Table.the-variants.{Stretches, Signals}
-use Rattle.sheet.specs.Line.{Line, rises, moderate, countRules, stretchRules, signalRules}
+use Rattle.line.specs.Line.{Line, rises, moderate, countRules, stretchRules, signalRules}
 use Rattle.sheet.specs.Sheet.{lineOf, headerRules, keeps, accepted}
-use Rattle.sheet.specs.Records.{Headed, Counts, KeepsItself, Along, lowest}
-
-not-below : (k : ℕ) → k < 0 → ⊥
-not-below k h = omega arith
+use Rattle.line.specs.Records.{Counts, Along}
+use Rattle.sheet.specs.Headed.{Headed}
 
 pub record Kept (l : Line) : Type 0 where
   pub counts : Counts (l .stretches) (l .signals) (l .end)
@@ -103,26 +97,3 @@ pub accepted-is : (s : List ℕ) → Headed s → accepted s ≡ keeps (lineOf s
 unfolding accepted allHold
 accepted-is s h =
     rw (le-leb _ _ (h .room), eq-eqb _ _ (h .stretches), eq-eqb _ _ (h .signals), eq-eqb _ _ (h .whole), eq-eqb _ _ (h .lent)) (and-true (keeps (lineOf s)))
-
--- a record of either table lies on the line
-pub on-line : (t : Table) (end x y : ℕ) → KeepsItself t end x y → x < end
-on-line Stretches end x y k = k .0
-on-line Signals end x y k = k .0
-
--- one record more, and what a record of the whole table keeps
-module _ (x : ℕ → ℕ) (Rule : ℕ → Type 0) where
-  pub none-yet : Along x Rule 0
-  none-yet = record { rising = λ k h. absurd (not-below _ h); each = λ k h. absurd (not-below _ h) }
-
-  pub one-more : (k : ℕ) → Along x Rule k → lowest x k ≤ x k → Rule k → Along x Rule (suc k)
-  unfolding lowest
-  one-more k a low here =
-      record {
-        rising = λ i h. ⊎-elim (a .rising i) (λ j. subst (λ (m : ℕ). lowest x m ≤ x m) (sym j) low) (earlier (suc i) k h);
-        each = λ i h. ⊎-elim (a .each i) (λ j. rw j here) (earlier i k h);
-      }
-
-  pub at-each : (n : ℕ) → Along x Rule n → (k : ℕ) → k < n → (lowest x k ≤ x k) × Rule k
-  unfolding lowest
-  at-each n a zero h = (omega arith, a .each 0 h)
-  at-each n a (suc k) h = (a .rising k h, a .each (suc k) h)

@@ -1,6 +1,4 @@
-pub mod Complement
 pub mod Parts
-pub mod Deciding
 pub mod Kept
 pub mod RoundTrip
 pub mod Writable

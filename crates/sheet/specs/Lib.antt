@@ -1,5 +1,3 @@
-pub mod Bytes
-pub mod Line
 pub mod Sheet
 pub mod Fields
-pub mod Records
+pub mod Headed

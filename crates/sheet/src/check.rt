@@ -2,73 +2,17 @@
 ghost use mathlib.Core.Path.{_≡_};
 ghost use Prim.Native.Nat.{_+_, _*_, _≤_, _<_};
 ghost use lib.ListN.{length};
-ghost use Rattle.sheet.specs.Bytes.{u16At, u32At};
-ghost use Rattle.sheet.specs.Line.{farthestEnd};
+ghost use Rattle.line.specs.Bytes.{u16At, u32At};
+ghost use Rattle.line.specs.Line.{farthestEnd};
 ghost use Rattle.sheet.specs.Sheet.{lineOf, keeps};
 ghost use Rattle.sheet.specs.Fields.{Checked};
-ghost use Rattle.sheet.specs.Records.{Decides, Headed, Counts, KeepsItself, Along};
-use super::Table;
-use super::bytes::u16_at;
-use super::bytes::u32_at;
-
-// The most stretches and signals, and the farthest line end in metres.
-const MOST_STRETCHES: usize = 512;
-
-const MOST_SIGNALS: usize = 64;
-
-const FARTHEST_END: u32 = 500000;
-
-// The counts and the line end.
-pub fn counts_keep(n: usize, m: usize, end: u32) -> bool
-    ensures { λ r. ⌜ Decides r (Counts n m end) ⌝ }
-{
-    if n < 1 {
-        return false;
-    }
-    if n > MOST_STRETCHES {
-        return false;
-    }
-    if m > MOST_SIGNALS {
-        return false;
-    }
-    if end < 1 {
-        return false;
-    }
-    if end > FARTHEST_END {
-        return false;
-    }
-    true
-}
-
-// A gradient of -35 to 35, in two's complement; an overlap that ends on the line.
-fn half_keeps(table: Table, first: u32, second: u32, end: u32) -> bool
-    requires { ⌜ (first < end) × (end ≤ farthestEnd) × (second < 65536) ⌝ }
-    ensures { λ r. ⌜ Decides r (KeepsItself table end first second) ⌝ }
-{
-    match table {
-        Table::Stretches => {
-            if second <= 35 {
-                return true;
-            }
-            second >= 65501
-        }
-        Table::Signals => first + second <= end,
-    }
-}
-
-// One record. `low` is the least number of metres that it may have.
-pub fn record_keeps(table: Table, low: u32, first: u32, second: u32, end: u32) -> bool
-    requires { ⌜ (end ≤ farthestEnd) × (second < 65536) ⌝ }
-    ensures { λ r. ⌜ Decides r ((low ≤ first) × KeepsItself table end first second) ⌝ }
-{
-    if first < low {
-        return false;
-    }
-    if first >= end {
-        return false;
-    }
-    half_keeps(table, first, second, end)
-}
+ghost use Rattle.line.specs.Records.{Decides, KeepsItself, Along};
+ghost use Rattle.sheet.specs.Headed.{Headed};
+use line::Table;
+use line::bytes::u16_at;
+use line::bytes::u32_at;
+use line::rules::counts_keep;
+use line::rules::record_keeps;
 
 // The n records of a table that begins at `at`.
 fn records_keep(table: Table, s: &[u8], at: usize, n: usize, end: u32) -> bool

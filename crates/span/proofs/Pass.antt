@@ -6,8 +6,8 @@ use native.Mathlib.Omega.{arith}
 use borrow.Author.Tests.{le-leb, lt-leb, lt-ltb, le-ltb}
 use Rattle.lists.proofs.Split.{below, earlier}
 use Rattle.train.specs.declared.Gradient.{Gradient}
-use Rattle.sheet.specs.Line.{Line}
-use Rattle.sheet.specs.Records.{Along}
+use Rattle.line.specs.Line.{Line}
+use Rattle.line.specs.Records.{Along}
 use Rattle.sheet.proofs.Kept.{Kept}
 use Rattle.span.specs.Least.{_≼_, lesser, slope, reach, Holds, Meets}
 use Rattle.span.specs.Pass.{followed}

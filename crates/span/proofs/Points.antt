@@ -9,7 +9,7 @@ use lib.Dec.{leb}
 use Rattle.lists.proofs.Split.{below, earlier}
 use Rattle.train.specs.declared.Gradient.{Gradient}
 use Rattle.train.specs.Gradient.{Moderate}
-use Rattle.sheet.specs.Line.{Line}
+use Rattle.line.specs.Line.{Line}
 use Rattle.sheet.proofs.Kept.{Kept}
 use Rattle.span.specs.Least.{_≼_, lesser, slope, reach, Holds, slopeUpTo, slopeAt, leastOf, Meets, LeastOver}
 use Rattle.span.proofs.Order.{≼-trans, lesser-first, lesser-second, lesser-one, ≼-same}

@@ -5,7 +5,7 @@ use Prim.Native.Nat.{ℕ, zero, suc, _+_, _-_, _≤_, _<_}
 use lib.Dec.{leb, ltb}
 use Rattle.train.specs.declared.Gradient.{Gradient}
 use Rattle.train.specs.Gradient.{gradientOf}
-use Rattle.sheet.specs.Line.{Line}
+use Rattle.line.specs.Line.{Line}
 
 -- rise - fall of g is at most that of h
 infix 60 _≼_

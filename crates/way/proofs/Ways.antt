@@ -13,7 +13,7 @@ use Rattle.train.specs.declared.Metre.{Metre}
 use Rattle.train.specs.Refusal.{_gives_}
 use Rattle.train.specs.Units.{metres}
 use Rattle.train.proofs.Refusals.{first-before}
-use Rattle.sheet.specs.Line.{Line}
+use Rattle.line.specs.Line.{Line}
 use Rattle.sheet.specs.Sheet.{lineOf, accepted}
 use Rattle.sheet.proofs.Kept.{Kept, headed-of}
 use Rattle.lookup.specs.Answer.{readRefusals, signalOf}

@@ -7,7 +7,7 @@ use lib.Dec.{leb, ltb, eqb}
 use Rattle.train.specs.declared.Gradient.{Gradient}
 use Rattle.train.specs.Units.{metres}
 use Rattle.train.specs.Refusal.{Refusal, _gives_}
-use Rattle.sheet.specs.Line.{Line}
+use Rattle.line.specs.Line.{Line}
 use Rattle.sheet.specs.Sheet.{lineOf, accepted}
 use Rattle.span.specs.Least.{slopeAt, leastOver}
 use Rattle.way.specs.declared.Way.{Way}

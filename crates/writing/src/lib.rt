@@ -4,8 +4,6 @@ ghost use Rattle.writing.specs.Answer.{Writes};
 use train::Metre;
 use train::Written;
 
-mod put;
-
 // The sheet of four lists and a line end, and how many bytes it takes; or a refusal, and the buffer is left as it was.
 pub fn write(
     starts: &[u32],
@@ -31,7 +29,7 @@ pub fn write(
             length: 0,
         };
     }
-    put::whole(starts, gradients, places, overlaps, last, sheet);
+    laying::whole(starts, gradients, places, overlaps, last, sheet);
     Written {
         refusal: 0,
         length: length as u32,

@@ -6,8 +6,8 @@ use mir.Val.{toZ, ofZ}
 use mir.ValLaws.{toZ-ofZ}
 use native.Mathlib.Omega.{arith}
 use Rattle.train.specs.Gradient.{gradientOf}
-use Rattle.sheet.specs.Bytes.{signed}
-use Rattle.sheet.proofs.Complement.{complement-fits, signed-complement}
+use Rattle.line.specs.Bytes.{signed}
+use Rattle.line.proofs.Complement.{complement-fits, signed-complement}
 use Rattle.listing.proofs.Halves.{fall-fits, down-is, up-is}
 use Rattle.listing.proofs.bits.Statement.{statement}
 use Rattle.listing.proofs.bits.Tie as tie

@@ -4,7 +4,7 @@ use borrow.Author.Tests.{not-true, not-false}
 use mathlib.Core.Path.{sym}
 use native.Mathlib.Omega.{arith}
 use Rattle.lists.proofs.Holding.{refuted}
-use Rattle.sheet.proofs.Deciding.{agrees}
+use Rattle.line.proofs.Deciding.{agrees}
 use Rattle.sheet.proofs.Writable.{writable-at, writable-of}
 use Rattle.listing.proofs.keep.Statement.{statement}
 use Rattle.listing.proofs.keep.Tie as tie

@@ -7,9 +7,9 @@ use lib.ListN.{length, getD}
 use mathlib.Core.Path.{_≡_, refl, subst}
 use native.Mathlib.Numerals.{add-one}
 use native.Mathlib.Omega.{arith}
-use Rattle.sheet.specs.Records.{Decides, Along, lowest}
-use Rattle.sheet.proofs.Deciding.{said-yes, said-no, decides-alike}
-use Rattle.sheet.proofs.Kept.{on-line, none-yet, one-more, at-each}
+use Rattle.line.specs.Records.{Decides, Along, lowest}
+use Rattle.line.proofs.Deciding.{said-yes, said-no, decides-alike}
+use Rattle.line.proofs.Tables.{on-line, none-yet, one-more, at-each}
 use Rattle.listing.specs.Lists.{Rule}
 use Rattle.listing.proofs.Rules.{to-rule, from-rule}
 use Rattle.listing.proofs.records_keep.Statement.{statement}

@@ -13,7 +13,7 @@ use Rattle.train.specs.Gradient.{gradientOf}
 use Rattle.reading.specs.declared.mark.Move.{Move}
 use Rattle.reading.specs.Answer.{stepOn}
 use Rattle.sheet.specs.Sheet.{lineOf, accepted}
-use Rattle.sheet.proofs.Complement.{moderate-fits}
+use Rattle.line.proofs.Complement.{moderate-fits}
 use Rattle.sheet.proofs.Kept.{Kept, headed-of}
 use Rattle.reading.proofs.Walk.{on-line, off-line, step-on}
 use Rattle.span.specs.Least.{slope}

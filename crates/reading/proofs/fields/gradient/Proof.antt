@@ -6,7 +6,7 @@ use mir.Syntax.{w32}
 use mir.ValLaws.{toZ-ofZ}
 use native.Mathlib.Omega.{arith}
 use Rattle.sheet.proofs.Kept.{headed-of}
-use Rattle.sheet.specs.Bytes.{signed}
+use Rattle.line.specs.Bytes.{signed}
 use Rattle.reading.proofs.fields.gradient.Statement.{statement}
 use Rattle.reading.proofs.fields.gradient.Tie as tie
 

@@ -5,7 +5,7 @@ use denote.Ref.{now}
 use native.Mathlib.Omega.{arith}
 use mathlib.Core.Path.{ap, _∙_}
 use Rattle.train.specs.Units.{metres}
-use Rattle.sheet.specs.Bytes.{u16At}
+use Rattle.line.specs.Bytes.{u16At}
 use Rattle.reading.proofs.fields.overlap.Statement.{statement}
 use Rattle.reading.proofs.fields.overlap.Tie as tie
 

@@ -7,7 +7,7 @@ use mir.Syntax.{w32}
 use mir.Val.{SFits, toZ}
 use mir.ValLaws.{toZ-ofZ}
 use native.Mathlib.Omega.{arith}
-use Rattle.sheet.proofs.Complement.{signed-up, signed-down}
+use Rattle.line.proofs.Complement.{signed-up, signed-down}
 use Rattle.reading.proofs.fields.per_mille.Statement.{statement}
 use Rattle.reading.proofs.fields.per_mille.Tie as tie
 

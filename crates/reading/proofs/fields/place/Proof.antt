@@ -4,7 +4,7 @@ use denote.Ref.{now}
 use native.Mathlib.Omega.{arith}
 use mathlib.Core.Path.{ap, _∙_}
 use Rattle.train.specs.Units.{metres}
-use Rattle.sheet.specs.Bytes.{u32At}
+use Rattle.line.specs.Bytes.{u32At}
 use Rattle.reading.proofs.fields.place.Statement.{statement}
 use Rattle.reading.proofs.fields.place.Tie as tie
 

@@ -1,0 +1,3 @@
+pub mod Complement
+pub mod Deciding
+pub mod Tables
