@@ -14,9 +14,11 @@ ghost use Rattle.lookup.specs.Answer.{stretchOf, signalOf};
 ghost use Rattle.reading.specs.Answer.{moveOf, Again};
 ghost use Rattle.writing.specs.Answer.{Writes};
 ghost use Rattle.query.specs.Answer.{QueryAnswers};
-ghost use Rattle.approach.specs.Entered.{trainOf};
+ghost use Rattle.entered.specs.Entered.{trainOf};
 use ceilings::Limits;
 use curve::Curve;
+use entered::Entered;
+use entered::train_of;
 use lookup::Signal;
 use lookup::Stretch;
 use query::Answer;
@@ -24,39 +26,9 @@ use ramp::Stop;
 use reading::mark::Mark;
 use reading::mark::Move;
 use step::Distances;
-use train::BrakeType;
 use train::Kmh;
 use train::Metre;
-use train::Train;
 use train::Written;
-
-// A train as C has it: the braked weight percentage, the length in metres, the top speed in km/h.
-#[repr(C)]
-pub struct Entered {
-    pub freight: bool,
-    pub electropneumatic: bool,
-    pub weight: u32,
-    pub length: u32,
-    pub top: u32,
-}
-
-// The train that C's record stands for.
-fn train_of(t: Entered) -> Train
-    ensures { λ r. ⌜ r ≡ trainOf t ⌝ }
-{
-    let brake = if t.freight {
-        BrakeType::Freight
-    } else {
-        BrakeType::Passenger
-    };
-    Train {
-        brake: brake,
-        electropneumatic: t.electropneumatic,
-        weight: t.weight,
-        length: Metre(t.length),
-        top: Kmh(t.top),
-    }
-}
 
 #[no_mangle]
 pub extern "C" fn approach_step(train: Entered, v: u32, v0: u32, gradient: i32) -> Distances

@@ -9,7 +9,7 @@ use Rattle.train.specs.Refusal.{firstOf}
 use Rattle.train.proofs.Refusals.{none-before, none-holds}
 use Rattle.motion.specs.declared.Overrun.{Overrun}
 use Rattle.motion.proofs.Planned.{planOf, planOf-is}
-use Rattle.stopping.proofs.Whole.{planOf-small}
+use Rattle.planning.proofs.Whole.{planOf-small}
 use Rattle.stopping.proofs.Rolling.{turns}
 use Rattle.ramp.specs.Answer.{inputs, strong, weak, rampRefusals, moment, distance, leeway, Promise}
 use Rattle.ramp.proofs.Moment.{moment-is}

@@ -11,7 +11,7 @@ use Rattle.train.specs.Refusal.{firstOf}
 use Rattle.train.proofs.Refusals.{Rising, rising-before, first-after, first-before, none-holds}
 use Rattle.motion.specs.declared.Overrun.{Overrun}
 use Rattle.motion.specs.declared.Plan.{Plan}
-use Rattle.stopping.specs.Stop.{Fair}
+use Rattle.planning.specs.Fair.{Fair}
 use Rattle.ramp.specs.declared.Stop.{Stop}
 use Rattle.ramp.specs.Answer.{inputs, strong, weak, rampRefusals, refused, moment, distance, stopOf, RampAnswers}
 use Rattle.ramp.specs.Begin.{IsReady, Stops}

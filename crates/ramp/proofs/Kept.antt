@@ -20,7 +20,8 @@ use Rattle.motion.specs.Plan.{IsPlan, squares, gain, loss}
 use Rattle.motion.proofs.Brake.{built, bend}
 use Rattle.motion.proofs.Furthest.{more, less, finer, Fast, Slow, ahead, furthest-fine}
 use Rattle.motion.proofs.Phases.{place-is}
-use Rattle.stopping.specs.Stop.{Small, Turns, placeUp}
+use Rattle.planning.specs.Fair.{Small}
+use Rattle.stopping.specs.Stop.{Turns, placeUp}
 use Rattle.ramp.specs.Answer.{strong, distance, Promise}
 use Rattle.ramp.proofs.Moment.{place-at, moment-is}
 

@@ -6,7 +6,8 @@ use Rattle.train.specs.Refusal.{firstOf}
 use Rattle.motion.specs.declared.Overrun.{Overrun}
 use Rattle.motion.specs.declared.Plan.{Plan}
 use Rattle.motion.specs.Plan.{IsPlan}
-use Rattle.stopping.specs.Stop.{Small, Enough, Turns, placeUp}
+use Rattle.planning.specs.Fair.{Small, Enough}
+use Rattle.stopping.specs.Stop.{Turns, placeUp}
 use Rattle.ramp.specs.declared.Stop.{Stop}
 use Rattle.ramp.specs.declared.Begun.{Begun}
 use Rattle.ramp.specs.declared.Begun.the-variants.{Refused, Ready}

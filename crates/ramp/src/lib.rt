@@ -4,7 +4,7 @@ ghost use Rattle.train.specs.Coefficients.{first, Within};
 ghost use Rattle.train.specs.Gradient.{gradientOf};
 ghost use Rattle.train.specs.Refusal.{firstOf};
 ghost use Rattle.ramp.specs.Answer.{overrun, timeRefusals, inputs, refused, RampAnswers};
-ghost use Rattle.stopping.specs.Stop.{Small, Enough};
+ghost use Rattle.planning.specs.Fair.{Small, Enough};
 ghost use Rattle.ramp.specs.Begin.{Starts, Stops};
 use motion::Overrun;
 use motion::Plan;
@@ -74,8 +74,8 @@ fn start(k: Coefficients, o: Overrun) -> Begun
     if bad > 0 {
         return Begun::Refused(bad);
     }
-    let m = stopping::plan::plan_of(k, o);
-    if !stopping::plan::is_strong(m) {
+    let m = planning::plan_of(k, o);
+    if !planning::is_strong(m) {
         return Begun::Refused(10);
     }
     Begun::Ready(m)

@@ -13,7 +13,8 @@ use Rattle.wide.specs.Value.{limit}
 use Rattle.motion.specs.declared.Plan.{Plan}
 use Rattle.motion.specs.Plan.{squares, cubes, gain, loss}
 use Rattle.motion.proofs.Brake.{below}
-use Rattle.stopping.specs.Stop.{Small, longest, placeUp}
+use Rattle.planning.specs.Fair.{Small}
+use Rattle.stopping.specs.Stop.{longest, placeUp}
 
 square-small : (a : ℕ) → a ≤ longest → a * a ≤ 1099511627776
 square-small a h = mul-le-mul h h
@@ -89,9 +90,6 @@ module _ (m : Plan) (t : ℕ) (s : Small m) (l : t ≤ longest) where
 -- the brake's part of the speed, by what the code has for the squares
 pub brake-way : (m : Plan) (t x : ℕ) → Small m → t ≤ longest → x ≡ squares (m .tm) (m .tr) t → m .brake * x ≤ 6064334438400000000
 brake-way m t x s l e = rw e (tested m t s l .brake)
-
-pub strength-fits : (m : Plan) → Small m → 2 * m .brake * m .tr ≤ 5783400000000
-strength-fits m s = mul-le-mul {n₂ = 192780000} (omega (arith, s .brake)) (s .tr)
 
 module _ (tm tr t a f : ℕ) (e : a ≡ t - tm) (e′ : f ≡ t - (tm + tr)) where
   pub squares-from : a * a - f * f ≡ squares tm tr t

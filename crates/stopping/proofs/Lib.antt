@@ -1,3 +1,2 @@
 mod Bounds
-pub mod Whole
 pub mod Rolling

@@ -12,7 +12,8 @@ use Rattle.motion.specs.declared.Plan.{Plan}
 use Rattle.motion.specs.Plan.{full, squares, fast, slow}
 use Rattle.motion.proofs.Brake.{sq, SQ, squares-is, squares-start}
 use Rattle.motion.proofs.Furthest.{Fast, Slow}
-use Rattle.stopping.specs.Stop.{Small, Enough, Turns, longest}
+use Rattle.planning.specs.Fair.{Small, Enough}
+use Rattle.stopping.specs.Stop.{Turns, longest}
 
 -- it stands or moves on at 0
 pub at-start : (m : Plan) → slow m 0 ≤ fast m 0

@@ -1,4 +1,3 @@
-// Where and when the train of a plan stops, in whole numbers: the plan, the moment, the place.
+// Where and when the train of a plan stops, in whole numbers: the moment, the place.
 pub mod place;
-pub mod plan;
 pub mod search;

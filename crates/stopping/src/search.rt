@@ -3,7 +3,8 @@ ghost use mathlib.Core.Path.{_≡_};
 ghost use Prim.Native.Nat.{_-_, _≤_};
 ghost use lib.Dec.{leb};
 ghost use Rattle.motion.specs.Plan.{squares, fast, slow};
-ghost use Rattle.stopping.specs.Stop.{Small, Enough, Turns, longest};
+ghost use Rattle.planning.specs.Fair.{Small, Enough};
+ghost use Rattle.stopping.specs.Stop.{Turns, longest};
 use motion::Plan;
 
 // By 2²⁰ ms, some 17 minutes, every accepted train rolls back.

@@ -1,6 +1,6 @@
 -- `train_of`: the brake type of each bool.
-use Rattle.approach.proofs.train_of.Statement.{statement}
-use Rattle.approach.proofs.train_of.Tie as tie
+use Rattle.entered.proofs.train_of.Statement.{statement}
+use Rattle.entered.proofs.train_of.Tie as tie
 
 returns : tie.Need-returns
 returns c = rw (c .if1 .taken)

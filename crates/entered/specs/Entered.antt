@@ -3,7 +3,7 @@ use mathlib.Core.Bool.{cond}
 use Rattle.train.specs.declared.BrakeType.the-variants.{Passenger, Freight}
 use Rattle.train.specs.declared.Train.{Train}
 use Rattle.train.specs.Units.{kmh, metres}
-use Rattle.approach.specs.declared.Entered.{Entered}
+use Rattle.entered.specs.declared.Entered.{Entered}
 
 abbrev pub trainOf : Entered → Train
 trainOf t =

@@ -7,8 +7,9 @@ use Rattle.train.specs.Coefficients.{Within}
 use Rattle.slope.proofs.Factors.{factor-small}
 use Rattle.slope.proofs.Decelerations.{slope-small}
 use Rattle.motion.specs.declared.Overrun.{Overrun}
+use Rattle.motion.specs.declared.Plan.{Plan}
 use Rattle.motion.proofs.Planned.{planned, planOf}
-use Rattle.stopping.specs.Stop.{Fair, Small}
+use Rattle.planning.specs.Fair.{Fair, Small}
 
 -- a factor of tr
 pub by-rise : (x n tr : ℕ) → x ≤ n → x * tr ≤ n * tr
@@ -32,3 +33,7 @@ planOf-small k o w f =
     let i = factor-small k (o .gradient) w in
     let g = f .gradient in
     is-small o _ _ _ f (slope-small _ _ i (g .rise)) (slope-small _ _ i (g .fall)) (omega (arith, f .weight))
+
+-- what the test of the strength works out
+pub strength-fits : (m : Plan) → Small m → 2 * m .brake * m .tr ≤ 5783400000000
+strength-fits m s = mul-le-mul {n₂ = 192780000} (omega (arith, s .brake)) (s .tr)

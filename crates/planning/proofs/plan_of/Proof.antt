@@ -3,9 +3,9 @@ use Prim.Native.Nat.{_*_, _≤_}
 use borrow.Author.Needs.{needs}
 use native.Mathlib.Omega.{arith}
 use Rattle.motion.proofs.Planned.{is-plan}
-use Rattle.stopping.proofs.Whole.{by-rise, is-small}
-use Rattle.stopping.proofs.plan.plan_of.Statement.{statement}
-use Rattle.stopping.proofs.plan.plan_of.Tie as tie
+use Rattle.planning.proofs.Whole.{by-rise, is-small}
+use Rattle.planning.proofs.plan_of.Statement.{statement}
+use Rattle.planning.proofs.plan_of.Tie as tie
 
 abbrev start : tie.After-nominal → tie.Start
 start c = c .before .before .before .before .before .before

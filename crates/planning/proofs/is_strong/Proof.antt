@@ -2,9 +2,9 @@
 use mathlib.Core.Path.{refl}
 use borrow.Author.Needs.{needs}
 use native.Mathlib.Omega.{arith}
-use Rattle.stopping.proofs.Bounds.{strength-fits}
-use Rattle.stopping.proofs.plan.is_strong.Statement.{statement}
-use Rattle.stopping.proofs.plan.is_strong.Tie as tie
+use Rattle.planning.proofs.Whole.{strength-fits}
+use Rattle.planning.proofs.is_strong.Statement.{statement}
+use Rattle.planning.proofs.is_strong.Tie as tie
 
 mul-result : tie.Need-mul-result
 mul-result c = search needs

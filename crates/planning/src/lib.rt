@@ -1,10 +1,10 @@
-// The plan of a motion, and whether its brake is strong enough.
+// The plan of a motion, in whole numbers, and whether its brake is strong enough. Document 01, "Ramp".
 ghost use mathlib.Core.Path.{_≡_};
 ghost use Prim.Native.Nat.{_+_, _*_};
 ghost use lib.Dec.{leb};
 ghost use Rattle.train.specs.Coefficients.{Within};
 ghost use Rattle.motion.specs.Plan.{IsPlan};
-ghost use Rattle.stopping.specs.Stop.{Fair, Small};
+ghost use Rattle.planning.specs.Fair.{Fair, Small};
 use motion::Overrun;
 use motion::Plan;
 use train::Coefficients;
