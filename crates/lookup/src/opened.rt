@@ -26,9 +26,11 @@ pub fn counts_of(s: &[u8]) -> Counts
     requires { ⌜ accepted (now s) ≡ true ⌝ }
     ensures { λ r. ⌜ IsCounts (now (s .entry)) r ⌝ }
 {
+    let stretches = fields::stretches(s);
+    let signals = fields::signals(s);
     Counts {
-        stretches: fields::stretches(s),
-        signals: fields::signals(s),
+        stretches: stretches,
+        signals: signals,
     }
 }
 
