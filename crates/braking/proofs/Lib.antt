@@ -1,5 +1,5 @@
 pub mod Exact
 pub mod Bounds
-mod Steady
+pub mod Steady
 pub mod Rising
 pub mod Coursed

@@ -1,5 +1,4 @@
 // The rules of a line's numbers, one count or one record at a time.
-ghost use mathlib.Core.Path.{_≡_};
 ghost use Prim.Native.Nat.{_≤_, _<_};
 ghost use Rattle.line.specs.Line.{farthestEnd};
 ghost use Rattle.line.specs.Records.{Decides, Counts, KeepsItself};

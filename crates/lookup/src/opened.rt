@@ -6,7 +6,6 @@ ghost use Rattle.lookup.specs.Answer.{stretchOf, signalOf};
 ghost use Rattle.lookup.specs.Counts.{IsCounts};
 use super::Signal;
 use super::Stretch;
-use reading::fields;
 use train::Metre;
 
 // How many stretches and signals.

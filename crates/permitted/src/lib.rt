@@ -56,7 +56,7 @@ pub fn speed(k: Coefficients, train: Train, g: Gradient, v0: Kmh, d: Metre) -> P
     ensures { λ r. ⌜ Permits k train g v0 d r ⌝ }
 {
     let top = train.top;
-    let c = braking::course_of(k, train, g);
+    let c = course::course_of(k, train, g);
     if !braking::strength::is_strong(c, v0, v0) {
         return Permitted::Weak;
     }

@@ -1,3 +1,2 @@
-// Reading a line sheet where its bytes lie: its fields, and the reading mark. Document 01, "Line sheet".
-pub mod fields;
+// The reading mark. Document 01, "Line sheet".
 pub mod mark;

@@ -3,7 +3,6 @@ ghost use mathlib.Core.Path.{_≡_};
 ghost use mathlib.Core.Bool.{true};
 ghost use Rattle.sheet.specs.Sheet.{lineOf, accepted};
 ghost use Rattle.reading.specs.Answer.{fresh, stepOf, moveOf, Again};
-use super::fields;
 use train::Metre;
 
 // Where the reading stands: before the stretch of that number. Any number is taken.

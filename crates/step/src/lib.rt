@@ -62,7 +62,7 @@ pub fn start(train: Train, v: Kmh, v0: Kmh, at: Kmh, gradient: i32) -> Begun
     if bad > 0 {
         return Begun::Refused(bad);
     }
-    let c = braking::course_of(train::first_values(), train, g);
+    let c = course::course_of(train::first_values(), train, g);
     if !braking::strength::is_strong(c, at, v0) {
         return Begun::Refused(10);
     }

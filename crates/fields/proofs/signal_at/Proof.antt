@@ -3,8 +3,8 @@ use borrow.Author.Needs.{needs}
 use denote.Ref.{now}
 use native.Mathlib.Omega.{arith}
 use Rattle.sheet.proofs.Kept.{headed-of}
-use Rattle.reading.proofs.fields.signal_at.Statement.{statement}
-use Rattle.reading.proofs.fields.signal_at.Tie as tie
+use Rattle.fields.proofs.signal_at.Statement.{statement}
+use Rattle.fields.proofs.signal_at.Tie as tie
 
 u16-at-requires : tie.Need-u16-at-requires
 u16-at-requires c κs = let h = headed-of (now (c .before .args .s)) (c .before .pre .0) .0 .room in omega arith

@@ -7,8 +7,8 @@ use mir.ValLaws.{toZ-ofZ}
 use native.Mathlib.Omega.{arith}
 use Rattle.sheet.proofs.Kept.{headed-of}
 use Rattle.line.specs.Bytes.{signed}
-use Rattle.reading.proofs.fields.gradient.Statement.{statement}
-use Rattle.reading.proofs.fields.gradient.Tie as tie
+use Rattle.fields.proofs.gradient.Statement.{statement}
+use Rattle.fields.proofs.gradient.Tie as tie
 
 mul-u16-at : tie.Need-mul-u16-at
 mul-u16-at c = let h = headed-of (now (c .before .args .s)) (c .before .pre .0) in omega (arith, h .0 .lent, h .1 .counts .stretches, h .1 .counts .signals, c .before .pre .1)

@@ -4,8 +4,8 @@ use mathlib.Core.Path.{ap}
 use native.Mathlib.Omega.{arith}
 use Rattle.train.specs.Units.{metres}
 use Rattle.sheet.proofs.Kept.{headed-of}
-use Rattle.reading.proofs.fields.start.Statement.{statement}
-use Rattle.reading.proofs.fields.start.Tie as tie
+use Rattle.fields.proofs.start.Statement.{statement}
+use Rattle.fields.proofs.start.Tie as tie
 
 mul-u32-at : tie.Need-mul-u32-at
 mul-u32-at c = let h = headed-of (now (c .before .args .s)) (c .before .pre .0) in omega (arith, h .0 .lent, h .1 .counts .stretches, h .1 .counts .signals, c .before .pre .1)

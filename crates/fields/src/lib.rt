@@ -1,4 +1,4 @@
-// The fields of an accepted sheet, where they stand in the caller's bytes.
+// The fields of an accepted sheet, where they stand in the caller's bytes. Document 01, "Line sheet".
 ghost use mathlib.Core.Path.{_≡_};
 ghost use mathlib.Core.Bool.{true};
 ghost use Prim.Native.Nat.{_+_, _*_, _≤_, _<_};

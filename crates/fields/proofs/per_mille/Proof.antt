@@ -8,8 +8,8 @@ use mir.Val.{SFits, toZ}
 use mir.ValLaws.{toZ-ofZ}
 use native.Mathlib.Omega.{arith}
 use Rattle.line.proofs.Complement.{signed-up, signed-down}
-use Rattle.reading.proofs.fields.per_mille.Statement.{statement}
-use Rattle.reading.proofs.fields.per_mille.Tie as tie
+use Rattle.fields.proofs.per_mille.Statement.{statement}
+use Rattle.fields.proofs.per_mille.Tie as tie
 
 small : (n : ℕ) → n < 65536 → toZ w32 n ≡ pos n
 small n h = toZ-ofZ w32 (pos n) (record { sfits = omega arith })

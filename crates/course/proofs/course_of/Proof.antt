@@ -1,11 +1,11 @@
 -- `course_of`: every product fits for coefficients within their spans, and each number is the paper's.
 use Prim.Native.Nat.{_*_, _≤_}
 use native.Mathlib.Omega.{arith}
 use Rattle.braking.proofs.Steady.{delay-small, power-small}
 use Rattle.braking.proofs.Coursed.{is-course}
 use borrow.Author.Needs.{needs}
-use Rattle.braking.proofs.course_of.Statement.{statement}
-use Rattle.braking.proofs.course_of.Tie as tie
+use Rattle.course.proofs.course_of.Statement.{statement}
+use Rattle.course.proofs.course_of.Tie as tie
 
 tf-small : (c : tie.After-of-train) → c .before .before .before .before .args .k .dt * c .of-train .result ≤ 3700000000
 tf-small c = delay-small _ _ (c .before .before .before .before .pre .0 .dt) (c .of-train .ensures .1)

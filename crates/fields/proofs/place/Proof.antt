@@ -5,8 +5,8 @@ use native.Mathlib.Omega.{arith}
 use mathlib.Core.Path.{ap, _∙_}
 use Rattle.train.specs.Units.{metres}
 use Rattle.line.specs.Bytes.{u32At}
-use Rattle.reading.proofs.fields.place.Statement.{statement}
-use Rattle.reading.proofs.fields.place.Tie as tie
+use Rattle.fields.proofs.place.Statement.{statement}
+use Rattle.fields.proofs.place.Tie as tie
 
 signal-at-requires : tie.Need-signal-at-requires
 signal-at-requires c κs = search needs

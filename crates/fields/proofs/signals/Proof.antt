@@ -1,9 +1,9 @@
--- `stretches`: a number of the header.
+-- `signals`: a number of the header.
 use denote.Ref.{now}
 use native.Mathlib.Omega.{arith}
 use Rattle.sheet.proofs.Kept.{headed-of}
-use Rattle.reading.proofs.fields.stretches.Statement.{statement}
-use Rattle.reading.proofs.fields.stretches.Tie as tie
+use Rattle.fields.proofs.signals.Statement.{statement}
+use Rattle.fields.proofs.signals.Tie as tie
 
 u16-at-requires : tie.Need-u16-at-requires
 u16-at-requires c κs = let h = headed-of (now (c .before .args .s)) (c .before .pre) .0 .room in omega arith
@@ -11,5 +11,5 @@ u16-at-requires c κs = let h = headed-of (now (c .before .args .s)) (c .before 
 returns : tie.Need-returns
 returns c = c .u16-at .ensures .0
 
-pub stretches-spec : {M : Type 1} → statement M
-stretches-spec = tie.close (tie.spec u16-at-requires returns)
+pub signals-spec : {M : Type 1} → statement M
+signals-spec = tie.close (tie.spec u16-at-requires returns)

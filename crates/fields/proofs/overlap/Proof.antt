@@ -6,8 +6,8 @@ use native.Mathlib.Omega.{arith}
 use mathlib.Core.Path.{ap, _∙_}
 use Rattle.train.specs.Units.{metres}
 use Rattle.line.specs.Bytes.{u16At}
-use Rattle.reading.proofs.fields.overlap.Statement.{statement}
-use Rattle.reading.proofs.fields.overlap.Tie as tie
+use Rattle.fields.proofs.overlap.Statement.{statement}
+use Rattle.fields.proofs.overlap.Tie as tie
 
 signal-at-requires : tie.Need-signal-at-requires
 signal-at-requires c κs = search needs
