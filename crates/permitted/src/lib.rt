@@ -30,7 +30,7 @@ fn fits(c: Course, v: Kmh, v0: Kmh, d: Metre) -> bool
     curve::fits(Curve::P, c, curve::terms_at(c, v, v0), d)
 }
 
-// The climb from v0, which fits.
+// The climb from v0, which fits. The wide numbers are asked only where the bounds of one word do not show a fit: mostly at its end.
 fn last_fitting(c: Course, v0: Kmh, d: Metre, top: Kmh) -> Kmh
     requires { ⌜ Small c × ((v : ℕ) → v0 .0 ≤ v → Enough c v (v0 .0)) × (v0 .0 ≤ top .0) × (top .0 ≤ 330) ⌝ }
     ensures { λ r. ⌜ r .0 ≡ climb (fitsBy c (v0 .0) (d .0)) (v0 .0) (top .0 - v0 .0) ⌝ }
@@ -42,8 +42,10 @@ fn last_fitting(c: Course, v0: Kmh, d: Metre, top: Kmh) -> Kmh
             break end;
         }
         let next = v + 1;
-        if !fits(c, Kmh(next), v0, d) {
-            break v;
+        if !quick::surely_fits(c, Kmh(next), v0, d) {
+            if !fits(c, Kmh(next), v0, d) {
+                break v;
+            }
         }
         v = next;
     };

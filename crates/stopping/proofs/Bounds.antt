@@ -99,3 +99,22 @@ module _ (tm tr t a f : ℕ) (e : a ≡ t - tm) (e′ : f ≡ t - (tm + tr)) whe
   pub cubes-from : a * a * a - f * f * f ≡ cubes tm tr t
   unfolding cubes
   cubes-from = rw (e, e′)
+
+-- what the moment under full braking is worked out from
+pub record Evenly (m : Plan) : Type 0 where
+  pub start : m .start ≤ 150000000000000000
+  pub up : m .up ≤ 2224908000000
+  pub brake : m .brake * m .tr ≤ 2891700000000
+  pub twice : 2 * m .brake * m .tr ≤ 5783400000000
+  pub late : m .brake * m .tr * (2 * m .tm + m .tr) ≤ 202419000000000000
+
+pub even : (m : Plan) → Small m → Evenly m
+even m s =
+    let b : m .brake * m .tr ≤ 2891700000000 = mul-le-mul {n₂ = 96390000} {m₂ = 30000} (s .brake) (s .tr) in
+    record {
+      start = omega (arith, s .start, s .tr);
+      up = omega (arith, s .up, s .tr);
+      brake = b;
+      twice = mul-le-mul {n₂ = 192780000} {m₂ = 30000} (omega (arith, s .brake)) (s .tr);
+      late = mul-le-mul {n₂ = 2891700000000} {m₂ = 70000} b (omega (arith, s .tm, s .tr));
+    }

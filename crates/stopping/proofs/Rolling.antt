@@ -1,13 +1,12 @@
--- Every accepted train has begun to roll back by the longest time, so there is a last millisecond before it does.
+-- Every accepted train has begun to roll back by the longest time, so there is a last millisecond before it does; and which, if the brake acts in full.
 use mathlib.Core.Path.{_≡_, refl, sym, ap, _∙_}
 use mathlib.Core.List.{[], _∷_}
-use Prim.Native.Nat.{ℕ, zero, suc, _+_, _*_, _-_, _≤_, _<_}
+use Prim.Native.Nat.{ℕ, zero, suc, _+_, _*_, _-_, _/_, _≤_, _<_}
 use native.Mathlib.Omega.{arith}
-use native.Mathlib.Nat.{mul-zero, le-refl, le-of-eq, lt-of-not-le}
+use native.Mathlib.Nat.{mul-zero, mul-comm, le-refl, le-of-eq, lt-of-not-le, div-mul-le-self, lt-div-mul-add, le-div-iff-mul-le, div-lt-iff-lt-mul}
 use native.Mathlib.Decide.{decLe}
-use lib.Dec.{lit<}
 use Rattle.exact.proofs.Polynomial.{num, _⊕_, _⊗_}
-use Rattle.exact.proofs.Certificate.{x0, x1, x2, x3, x4, x5, x6, done, times, cert}
+use Rattle.exact.proofs.Certificate.{x0, x1, x2, x3, x4, x5, x6, x7, x8, x9, done, times, cert, equal}
 use Rattle.motion.specs.declared.Plan.{Plan}
 use Rattle.motion.specs.Plan.{full, squares, fast, slow}
 use Rattle.motion.proofs.Brake.{sq, SQ, squares-is, squares-start}
@@ -46,6 +45,47 @@ module _ (m : Plan) (s : Small m) (h : Enough m) where
       (num 2 ⊗ Fast x0 x1 (num 1048576) ⊕ num 1) (num 2 ⊗ Slow x2 x3 (num 1048576) x6) refl in
       omega arith
 
+  -- once the brake acts in full the speed falls evenly, by slowing a millisecond
+  abbrev V′ : ℕ
+  V′ = m .start + m .brake * m .tr * (2 * m .tm + m .tr)
+
+  abbrev slowing : ℕ
+  slowing = 2 * m .brake * m .tr + m .up - m .down
+
+  evenly : (t : ℕ) → m .tm + m .tr ≤ t → slow m t + V′ ≡ fast m t + slowing * t
+  evenly t l =
+      let f = full (m .tm) (m .tr) t in
+      let e : squares (m .tm) (m .tr) t ≡ sq f (m .tr) = squares-is (m .tm) (m .tr) t ∙ ap (sq f) (omega arith) in
+      let g : slowing + m .down ≡ 2 * m .brake * m .tr + m .up = omega arith in
+      let i : t ≡ m .tm + m .tr + f = omega arith in
+      equal (m .start ∷ m .up ∷ m .down ∷ m .brake ∷ m .tm ∷ m .tr ∷ f ∷ t ∷ squares (m .tm) (m .tr) t ∷ slowing ∷ [])
+      (times x3 x8 (SQ x6 x5) e (times (num 2 ⊗ x3 ⊗ x5) (x4 ⊕ x5 ⊕ x6) x7 (sym i) (times x7 (num 2 ⊗ x3 ⊗ x5 ⊕ x1) (x9 ⊕ x2) (sym g) done)))
+      (Slow x1 x3 x7 x8 ⊕ (x0 ⊕ x3 ⊗ x5 ⊗ (num 2 ⊗ x4 ⊕ x5))) (Fast x0 x2 x7 ⊕ x9 ⊗ x7) refl
+
+  pub slowing-some : 0 < slowing
+  slowing-some = let i = s .some in omega arith
+
+  pub in-full : slow m (m .tm + m .tr) ≤ fast m (m .tm + m .tr) → Turns m (V′ / slowing)
+  in-full moves =
+      let t = V′ / slowing in
+      let T = m .tm + m .tr in
+      let e₀ = evenly T (le-refl T) in
+      let l : T ≤ t = le-div-iff-mul-le slowing-some .1 (rw (mul-comm T slowing) (omega arith)) in
+      let e₁ = evenly t l in
+      let e₂ = evenly (t + 1) (omega arith) in
+      let e₃ = evenly longest (omega (arith, s .tm, s .tr)) in
+      let d : slowing * t ≤ V′ = rw (mul-comm slowing t) (div-mul-le-self V′ slowing) in
+      let u : V′ < slowing * (t + 1) = rw (mul-comm slowing (t + 1)) (up t slowing V′ (lt-div-mul-add slowing-some)) in
+      let w : V′ < slowing * longest = let n = at-end in omega arith in
+      record {
+        still = omega arith;
+        back = omega arith;
+        early = div-lt-iff-lt-mul slowing-some .1 (rw (mul-comm longest slowing) w);
+      }
+    where
+      up : (t g v : ℕ) → v < t * g + g → v < (t + 1) * g
+      up t g v h = omega arith
+
 -- the search has it between low and high
 pub record Between (m : Plan) (low high : ℕ) : Type 0 where
   pub still : slow m low ≤ fast m low
@@ -53,8 +93,8 @@ pub record Between (m : Plan) (low high : ℕ) : Type 0 where
   pub apart : low < high
   pub early : high ≤ longest
 
-pub begun : (m : Plan) → Small m → Enough m → Between m 0 longest
-begun m s h = record { still = at-start m; back = at-end m s h; apart = lit< tt; early = le-refl longest }
+pub begun : (m : Plan) → Small m → fast m (m .tm + m .tr) < slow m (m .tm + m .tr) → Between m 0 (m .tm + m .tr)
+begun m s b = record { still = at-start m; back = b; apart = omega (arith, s .some); early = omega (arith, s .tm, s .tr) }
 
 pub turned : (m : Plan) (low high : ℕ) → Between m low high → high - low ≤ 1 → Turns m low
 turned m low high b l =
