@@ -30,18 +30,19 @@ curve-small Sbi = omega arith
 curve-small W = omega arith
 curve-small P = omega arith
 
+-- the factors of a curve's run
+pub steady-small : (k : Curve) (c : Course) → Small c → (serviceOf k * c .r8 ≤ 3800000000) × ((c .t8 + serviceOf k * c .r8 ≤ 8000000000) × (warningOf k * 150000000 ≤ 300000000))
+steady-small k c sm =
+    let s = curve-small k in
+    let i : serviceOf k * c .r8 ≤ 3800000000 = mul-le-mul {n₂ = 1} {m₂ = 3800000000} (s .0) (sm .r8) in
+    let j = sm .t8 in
+    (i, (omega arith, omega (arith, s .1)))
+
 -- the sum of an accepted motion
 module _ (k : Curve) (c : Course) (m : Terms) (sm : Small c) (h : Bounded m) where
-  pub steady-small : (serviceOf k * c .r8 ≤ 3800000000) × ((c .t8 + serviceOf k * c .r8 ≤ 8000000000) × (warningOf k * 150000000 ≤ 300000000))
-  steady-small =
-      let s = curve-small k in
-      let i : serviceOf k * c .r8 ≤ 3800000000 = mul-le-mul {n₂ = 1} {m₂ = 3800000000} (s .0) (sm .r8) in
-      let j = sm .t8 in
-      (i, (omega arith, omega (arith, s .1)))
-
   pub run-small : runOf k c (m .beta) (m .speed) ≤ 8000000000 * betaMost + 300000000 * speedMost
   unfolding runOf
-  run-small = let s = steady-small in add-le-add (mul-le-mul (s .1 .0) (h .beta)) (mul-le-mul (s .1 .1) (h .speed))
+  run-small = let s = steady-small k c sm in add-le-add (mul-le-mul (s .1 .0) (h .beta)) (mul-le-mul (s .1 .1) (h .speed))
 
   pub run-fits : runOf k c (m .beta) (m .speed) < limit
   unfolding limit

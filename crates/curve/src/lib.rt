@@ -31,9 +31,9 @@ pub struct Terms {
 }
 
 // How often a curve counts tR + tf at Vβ, and 1.5 s at V.
-struct Ahead {
-    service: u64,
-    warning: u64,
+pub struct Ahead {
+    pub service: u64,
+    pub warning: u64,
 }
 
 // The terms of a train that is strong enough.
@@ -62,7 +62,7 @@ pub fn terms_at(c: Course, v: Kmh, v0: Kmh) -> Terms
 }
 
 // How often the curve counts them.
-fn ahead_of(curve: Curve) -> Ahead
+pub fn ahead_of(curve: Curve) -> Ahead
     ensures { λ r. ⌜ (r .service ≡ serviceOf curve) × (r .warning ≡ warningOf curve) ⌝ }
 {
     match curve {

@@ -1,1 +1,3 @@
-pub mod Bounds
+pub mod Settled
+pub mod Pair
+pub mod Steady

@@ -1,56 +1,107 @@
-// That a P distance is at most d, where bounds of one word each show it: nearly always where it is.
-// Units: 2^24 of nine decelerations times 2^66 of a run are 2^90 of a sum.
+// Distances from bounds of one word each. They nearly always leave one number of millimetres, or show that a distance is at most
+// so many metres; where they do not, the wide numbers of `curve` are asked.
 ghost use mathlib.Core.Path.{_≡_};
 ghost use mathlib.Core.Bool.{true};
-ghost use Prim.Native.Nat.{_+_, _*_, _^_, _≤_};
-ghost use Rattle.braking.specs.Plan.{v9, Small, Near, Enough, betaMost, speedMost};
+ghost use Prim.Native.Nat.{ℕ, _+_, _*_, _^_, _≤_};
+ghost use Rattle.braking.specs.Plan.{Small, Near, Enough};
 ghost use Rattle.curve.specs.declared.Curve.the-variants.{P};
-ghost use Rattle.curve.specs.Plan.{squareOf, runOf, aOf, sumAt};
+ghost use Rattle.curve.specs.Plan.{aOf, sumAt, placeOf};
+ghost use Rattle.quick.specs.Bounds.{IsBounds, IsRun};
 use braking::Course;
 use braking::strength;
+use curve::Curve;
 use train::Kmh;
 use train::Metre;
+use train::Millimetre;
 
-// The run at the steady speeds, in 2^66, raised: 3 s at v are 7.5·10²³ v.
-fn run_above(c: Course, b: u64, v: Kmh) -> u64
-    requires { ⌜ Small c × (b ≤ betaMost) × (v .0 ≤ 330) ⌝ }
-    ensures { λ r. ⌜ (runOf P c b (v9 (v .0)) ≤ r * 2 ^ 66) × (r ≤ 200000000) ⌝ }
-{
-    let n = v.0 as u64;
-    let run = (c.t8 + c.r8) * ((b >> 32) + 1) + 174622982740403 * n;
-    (run >> 34) + 1
+// Of one pair of speeds, for every curve. Vβ in 9·10⁶ / (m/s), lowered; the braking part in µm is from least / (a + 1) to most / a.
+pub struct Bounds {
+    pub beta: u64,
+    pub a: u64,
+    pub least: u64,
+    pub most: u64,
 }
 
-// Vβ² - V0² in 2^90, raised.
-fn square_above(b: u64, target: u64) -> u64
-    requires { ⌜ (target ≤ b) × (b ≤ betaMost) × (target ≤ speedMost) ⌝ }
-    ensures { λ r. ⌜ (squareOf b target ≤ r * 2 ^ 90) × (r ≤ 2000000000) ⌝ }
-{
-    let less = ((b - target) >> 30) + 1;
-    let more = ((b + target) >> 30) + 1;
-    ((less * more) >> 30) + 1
+// The run at the steady speeds in µm is from low to high.
+struct Run {
+    low: u64,
+    high: u64,
 }
 
-// d metres in 2^66, lowered; of a thousand kilometres and more, the thousand.
-fn room_below(d: Metre) -> u64
-    ensures { λ r. ⌜ (r * 2 ^ 66 ≤ 9 * 10 ^ 23 * d .0) × (r ≤ 12200000000) ⌝ }
+// The bounds at one pair of speeds.
+pub fn bounds_at(c: Course, v: Kmh, v0: Kmh) -> Bounds
+    requires { ⌜ Small c × Near (v .0) (v0 .0) × Enough c (v .0) (v0 .0) ⌝ }
+    ensures { λ r. ⌜ IsBounds c (v .0) (v0 .0) r ⌝ }
+{
+    let s = strength::at(c, v, v0);
+    let target = 2500000 * v0.0 as u64;
+    let low = strength::beta(c, v, v0) / 1000000000;
+    let high = low + 1;
+    let a = 81 * (s.gain - s.loss) / 32000000;
+    let least = (low - target) * (low + target) / 64 * s.unit;
+    let most = ((high - target) * (high + target) / 64 + 1) * s.unit;
+    Bounds {
+        beta: low,
+        a: a,
+        least: least,
+        most: most,
+    }
+}
+
+// The run of a curve, beta being Vβ as in the bounds.
+fn run_at(curve: Curve, c: Course, beta: u64, v: Kmh) -> Run
+    requires { ⌜ Small c × (beta ≤ 980743560) × (v .0 ≤ 330) ⌝ }
+    ensures { λ r. ⌜ IsRun curve c beta (v .0) r ⌝ }
+{
+    let ahead = curve::ahead_of(curve);
+    let steady = c.t8 + ahead.service * c.r8;
+    let low = (steady * beta + ahead.warning * 375000000000000 * v.0 as u64) / 900000000;
+    let high = low + steady / 900000000 + 2;
+    Run {
+        low: low,
+        high: high,
+    }
+}
+
+// A curve's distance from the bounds of its speeds.
+pub fn distance(curve: Curve, c: Course, v: Kmh, v0: Kmh, b: Bounds) -> Millimetre
+    requires { ⌜ Small c × Near (v .0) (v0 .0) × Enough c (v .0) (v0 .0) × IsBounds c (v .0) (v0 .0) b ⌝ }
+    ensures { λ r. ⌜ r .0 ≡ placeOf curve c (v .0) (v0 .0) ⌝ }
+{
+    let run = run_at(curve, c, b.beta, v);
+    let n = (run.low + b.least / (b.a + 1) + 999) / 1000;
+    let end = 1000 * n;
+    if run.high <= end {
+        if b.most <= b.a * (end - run.high) {
+            let mm = n as u32;
+            return Millimetre(mm);
+        }
+    }
+    curve::distance(curve, c, curve::terms_at(c, v, v0))
+}
+
+// d metres in µm; of more than 500 km, the longest line, the 500.
+fn room_of(d: Metre) -> u64
+    ensures { λ r. ⌜ (r ≤ 1000000 * d .0) × (r ≤ 500000000000) ⌝ }
 {
     let n = d.0 as u64;
-    if n >= 1000000 {
-        return 12197274440;
+    if n > 500000 {
+        500000000000
+    } else {
+        1000000 * n
     }
-    (13096723705530 * n) >> 30
 }
 
+// That the P distance is at most d, where the bounds show it. In 256 µm the room times a is no longer than a word.
 pub fn surely_fits(c: Course, v: Kmh, v0: Kmh, d: Metre) -> bool
     requires { ⌜ Small c × Near (v .0) (v0 .0) × Enough c (v .0) (v0 .0) ⌝ }
     ensures { λ r. ⌜ (r ≡ true → sumAt P c (v .0) (v0 .0) ≤ 81 * 10 ^ 20 * aOf c (v .0) (v0 .0) * (1000 * d .0)) ⌝ }
 {
-    let s = strength::at(c, v, v0);
-    let b = strength::beta(c, v, v0);
-    let a = (9 * (s.gain - s.loss)) >> 24;
-    let run = run_above(c, b, v);
-    let square = square_above(b, strength::fine(v0));
-    let room = room_below(d);
-    (a + 1) * run + 50000 * s.unit * square <= a * room
+    let b = bounds_at(c, v, v0);
+    let run = run_at(Curve::P, c, b.beta, v);
+    let room = room_of(d);
+    if room < run.high {
+        return false;
+    }
+    b.most / 256 < b.a * ((room - run.high) / 256)
 }

@@ -87,13 +87,13 @@ fn distances_at(c: Course, v: Kmh, v0: Kmh) -> Distances
     requires { ⌜ Small c × Near (v .0) (v0 .0) × Enough c (v .0) (v0 .0) ⌝ }
     ensures { λ r. ⌜ r ≡ placesOf c v v0 ⌝ }
 {
-    let m = curve::terms_at(c, v, v0);
+    let b = quick::bounds_at(c, v, v0);
     Distances {
         refusal: 0,
-        ebi: curve::distance(Curve::Ebi, c, m),
-        sbi: curve::distance(Curve::Sbi, c, m),
-        w: curve::distance(Curve::W, c, m),
-        p: curve::distance(Curve::P, c, m),
+        ebi: quick::distance(Curve::Ebi, c, v, v0, b),
+        sbi: quick::distance(Curve::Sbi, c, v, v0, b),
+        w: quick::distance(Curve::W, c, v, v0, b),
+        p: quick::distance(Curve::P, c, v, v0, b),
     }
 }
 

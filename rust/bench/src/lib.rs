@@ -1,5 +1,6 @@
 //! What the benchmark compares: a peer of the library in Rust, and the proved calls on wide numbers.
-pub mod peer;
+pub mod own;
+pub mod plain;
 pub mod wide_calls;
 pub mod wide_inputs;
 

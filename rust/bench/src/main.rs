@@ -1,14 +1,15 @@
-//! ns for each operation of the library, calls included, beside a peer in Rust over the same inputs, in one run.
+//! ns for each operation of the library, calls included, beside two peers in Rust over the same inputs, in one run: the plain plan
+//! as one would write it with u128, and the library's own plan with u128.
 mod measures;
 
 use measures::{query, ramp, sheet, step, timing, wide};
 
 fn main() {
-    timing::heading("ns, call included");
+    timing::heading("ns, call included", &["plain", "own"]);
     step::measure();
     ramp::measure();
     sheet::measure();
     query::measure();
-    timing::heading("ns, wide numbers below it");
+    timing::heading("ns, wide numbers below it", &["plain"]);
     wide::measure();
 }

@@ -1,5 +1,5 @@
 //! Wide numbers that keep what the contracts ask, with 0, the largest word and short words among them.
-use crate::peer::wide::{at_most, difference, times};
+use crate::plain::wide::{at_most, difference, times};
 use crate::Wide;
 use inputs::Random;
 

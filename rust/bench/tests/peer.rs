@@ -1,7 +1,7 @@
 //! The peer, with which the library's times are compared, against the reference: it must not be fast by being wrong.
 use approach::raw::{Answer, Distances, Signal, Stop, CURVES};
 use approach::Kmh;
-use bench::peer::{query, ramp, sheet, step};
+use bench::plain::{query, ramp, sheet, step};
 use inputs::{on_paper, Random};
 use reference::step::Curve;
 

@@ -1,5 +1,5 @@
 //! The proved wide numbers against schoolbook arithmetic in digits of 16 bits, and the peer against the proved ones.
-use bench::peer::wide as peer;
+use bench::plain::wide as peer;
 use bench::wide_calls::*;
 use bench::wide_inputs::{factors, summands, wide, word};
 use bench::Wide;

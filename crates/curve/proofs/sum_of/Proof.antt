@@ -19,7 +19,7 @@ known : (c : tie.After-ahead-of) → let l = c .before .before .args .c in let r
     (r .service * l .r8 ≤ 3800000000) × ((l .t8 + r .service * l .r8 ≤ 8000000000) × (r .warning * 150000000 ≤ 300000000))
 known c =
     let s = c .before .before in
-    rw (c .ahead-of .ensures .0, c .ahead-of .ensures .1) (steady-small (s .args .curve) (s .args .c) (s .args .m) (s .pre .0) (s .pre .1))
+    rw (c .ahead-of .ensures .0, c .ahead-of .ensures .1) (steady-small (s .args .curve) (s .args .c) (s .pre .0))
 
 ahead-of-requires : tie.Need-ahead-of-requires
 ahead-of-requires c κs = search needs

@@ -8,8 +8,6 @@ use borrow.Author.Needs.{needs}
 use denote.Ref.{now}
 use Rattle.braking.specs.Plan.{Small, Near, Enough}
 use Rattle.curve.specs.Plan.{placeOf}
-use Rattle.curve.proofs.Bounds.{bounded}
-use Rattle.curve.proofs.Exact.{place-is}
 use Rattle.lists.specs.Counted.{upTo}
 use Rattle.lists.proofs.Places.{longer, filled}
 use Rattle.row.proofs.fill.Statement.{statement}
@@ -36,14 +34,11 @@ ready c =
     let p = s .pre .2 in
     (s .pre .0, record { high = omega (arith, c .loop-test .taken); ahead = omega arith }, rw e (s .pre .1 (l .k) (c .loop-test .taken)))
 
-terms-at-requires : tie.Need-terms-at-requires Inv-loop μ-loop
-terms-at-requires c κs = ready c
+bounds-at-requires : tie.Need-bounds-at-requires Inv-loop μ-loop
+bounds-at-requires c κs = ready c
 
 distance-requires : tie.Need-distance-requires Inv-loop μ-loop
-distance-requires c κs =
-    let r = ready (c .before) in
-    let s = c .before .before .before .before in
-    (r .0, bounded (s .args .c) (c .before .before .loop .v) (s .args .v0 .0) (c .terms-at .result) (r .0) (r .1) (r .2) (c .terms-at .ensures))
+distance-requires c κs = let r = ready (c .before) in (r .0, r .1, r .2, c .bounds-at .ensures)
 
 mul-out : tie.Need-mul-out Inv-loop μ-loop
 mul-out c = search needs
@@ -66,9 +61,7 @@ written : (c : tie.After-distance Inv-loop μ-loop) → let s = c .before .befor
 written c =
     let s = c .before .before .before .before .before in
     let l = c .before .before .before .loop in
-    c .distance .ensures
-    ∙ place-is (s .args .curve) (s .args .c) (l .v) (s .args .v0 .0) (c .before .terms-at .result) (c .before .terms-at .ensures)
-    ∙ ap (λ v. placeOf (s .args .curve) (s .args .c) v (s .args .v0 .0)) (l .inv .2)
+    c .distance .ensures ∙ ap (λ v. placeOf (s .args .curve) (s .args .c) v (s .args .v0 .0)) (l .inv .2)
 
 loop-again : tie.Need-loop-again Inv-loop μ-loop
 loop-again c =
@@ -100,7 +93,7 @@ fill-spec =
     Inv-loop
     μ-loop
     loop-holds
-    terms-at-requires
+    bounds-at-requires
     distance-requires
     mul-out
     slice-write-out

@@ -1,8 +1,8 @@
 //! Approach queries: some as they come in practice, and the longest of all.
-use super::timing::{compared, mixed, worst};
+use super::timing::{compared, mixed, way, worst, Way};
 use approach::raw::{self, Answer};
 use approach::{Brake, Kmh, Metre, Train};
-use bench::peer::query;
+use bench::{own, plain};
 use inputs::{Line, Query, Random, EXAMPLE, EXAMPLE_TRAIN};
 
 const QUERIES: usize = 300;
@@ -19,12 +19,12 @@ fn numbers(a: Answer) -> u64 {
     mixed([a.refusal, a.release, a.permitted, a.mark, a.w, a.sbi, a.ebi])
 }
 
-fn proved(q: &Query) -> u64 {
-    numbers(raw::query(q.train.into(), q.tm, q.tr, &q.sheet, q.signal, q.head))
-}
-
-fn peer(q: &Query) -> u64 {
-    numbers(query::query(q.train.into(), q.tm, q.tr, &q.sheet, q.signal, q.head))
+fn ways() -> [Way<Query>; 3] {
+    [
+        way(|q: &Query| numbers(raw::query(q.train.into(), q.tm, q.tr, &q.sheet, q.signal, q.head))),
+        way(|q: &Query| numbers(plain::query::query(q.train.into(), q.tm, q.tr, &q.sheet, q.signal, q.head))),
+        way(|q: &Query| numbers(own::query::query(q.train.into(), q.tm, q.tr, &q.sheet, q.signal, q.head))),
+    ]
 }
 
 /// The query with other braked weights, lengths and times, so that no branch is known beforehand.
@@ -62,7 +62,7 @@ fn twenty() -> Query {
 
 fn measure_varied(name: &str, random: &mut Random, query: Query) {
     let queries: Vec<Query> = (0..QUERIES).map(|_| varied(random, &query)).collect();
-    compared(name, &queries, 1.0, proved, peer);
+    compared(name, &queries, 1.0, &ways());
 }
 
 /// Both climbs go to their ends, on gradients of all kinds.
@@ -84,6 +84,6 @@ pub fn measure() {
     measure_varied("query, 20 stretches, 3 km ahead", &mut random, twenty());
     measure_varied("query, 512 stretches, no overlap", &mut random, largest(0, 0));
     let longest = longest(&mut random);
-    compared("query, 512, both climbs whole", &longest, 1.0, proved, peer);
-    worst("the worst single one of these", &longest, proved, peer);
+    compared("query, 512, both climbs whole", &longest, 1.0, &ways());
+    worst("the worst single one of these", &longest, &ways());
 }

@@ -1,7 +1,7 @@
 //! Ramp answers.
-use super::timing::{compared, mixed};
+use super::timing::{compared, mixed, way};
 use approach::raw::{self, Stop};
-use bench::peer::ramp;
+use bench::{own, plain};
 use inputs::Random;
 
 const TRAINS: usize = 20_000;
@@ -27,11 +27,10 @@ fn stop(s: Stop) -> u64 {
 pub fn measure() {
     let mut random = Random(41);
     let inputs: Vec<Input> = (0..TRAINS).map(|_| input(&mut random)).collect();
-    compared(
-        "ramp answer",
-        &inputs,
-        1.0,
-        |&(braked_weight, gradient, v, tm, tr)| stop(raw::ramp(braked_weight, gradient, v, tm, tr)),
-        |&(braked_weight, gradient, v, tm, tr)| stop(ramp::ramp(braked_weight, gradient, v, tm, tr)),
-    );
+    let ways = [
+        way(|&(braked_weight, gradient, v, tm, tr)| stop(raw::ramp(braked_weight, gradient, v, tm, tr))),
+        way(|&(braked_weight, gradient, v, tm, tr)| stop(plain::ramp::ramp(braked_weight, gradient, v, tm, tr))),
+        way(|&(braked_weight, gradient, v, tm, tr)| stop(own::ramp::ramp(braked_weight, gradient, v, tm, tr))),
+    ];
+    compared("ramp answer", &inputs, 1.0, &ways);
 }

@@ -1,7 +1,7 @@
 //! The check of a largest line sheet, with the read of its last signal.
-use super::timing::{compared, mixed};
+use super::timing::{compared, mixed, way};
 use approach::raw::{self, Signal};
-use bench::peer::sheet;
+use bench::plain::sheet;
 use inputs::Random;
 
 const SHEETS: usize = 200;
@@ -15,11 +15,7 @@ fn signal(s: Signal) -> u64 {
 pub fn measure() {
     let mut random = Random(31);
     let sheets: Vec<Vec<u8>> = (0..SHEETS).map(|_| random.line(STRETCHES, SIGNALS).written()).collect();
-    compared(
-        "sheet check, 512 and 64",
-        &sheets,
-        1.0,
-        |s| signal(raw::sheet_signal(s, SIGNALS - 1)),
-        |s| signal(sheet::signal(s, SIGNALS - 1)),
-    );
+    let proved = way(|s: &Vec<u8>| signal(raw::sheet_signal(s, SIGNALS - 1)));
+    let peer = way(|s: &Vec<u8>| signal(sheet::signal(s, SIGNALS - 1)));
+    compared("sheet check, 512 and 64", &sheets, 1.0, &[proved, peer]);
 }

@@ -1,7 +1,7 @@
 //! Single distances and rows.
-use super::timing::{compared, mixed};
+use super::timing::{compared, mixed, way, Way};
 use approach::raw::{self, Curve, Distances, Train};
-use bench::peer::step;
+use bench::{own, plain};
 use inputs::Random;
 
 const TRAINS: usize = 2_000;
@@ -36,30 +36,30 @@ fn distances(d: Distances) -> u64 {
 
 /// One curve from V0 0 to 330.
 fn measure_row(name: &str, inputs: &[Input], curve: Curve) {
-    let row = |write: &dyn Fn(&mut [u32])| {
-        let mut row = [0; 331];
-        write(&mut row);
-        mixed(row)
-    };
-    compared(
-        name,
-        inputs,
-        331.0,
-        |i| row(&|row| assert_eq!(raw::row(curve, i.train, 0, i.gradient, row).length, 331)),
-        |i| row(&|row| step::row(curve, i.train, 0, i.gradient, row)),
-    );
+    fn row(write: impl Fn(&Input, &mut [u32]) + 'static) -> Way<Input> {
+        way(move |input| {
+            let mut row = [0; 331];
+            write(input, &mut row);
+            mixed(row)
+        })
+    }
+    let ways = [
+        row(move |i, row| assert_eq!(raw::row(curve, i.train, 0, i.gradient, row).length, 331)),
+        row(move |i, row| plain::step::row(curve, i.train, 0, i.gradient, row)),
+        row(move |i, row| own::step::row(curve, i.train, 0, i.gradient, row)),
+    ];
+    compared(name, inputs, 331.0, &ways);
 }
 
 pub fn measure() {
     let mut random = Random(11);
     let inputs: Vec<Input> = (0..TRAINS).map(|_| input(&mut random)).collect();
-    compared(
-        "step distance, of a call's four",
-        &inputs,
-        4.0,
-        |i| distances(raw::step(i.train, i.v, i.v0, i.gradient)),
-        |i| distances(step::step(i.train, i.v, i.v0, i.gradient)),
-    );
+    let ways = [
+        way(|i: &Input| distances(raw::step(i.train, i.v, i.v0, i.gradient))),
+        way(|i: &Input| distances(plain::step::step(i.train, i.v, i.v0, i.gradient))),
+        way(|i: &Input| distances(own::step::step(i.train, i.v, i.v0, i.gradient))),
+    ];
+    compared("step distance, of a call's four", &inputs, 4.0, &ways);
     measure_row("row place, EBI, of 331", &inputs, Curve::Ebi);
     measure_row("row place, P, of 331", &inputs, Curve::P);
 }

@@ -13,8 +13,8 @@ pub(crate) const LEAST7: u64 = 500_000;
 /// What the speeds do not change.
 #[derive(Clone, Copy)]
 pub(crate) struct Course {
-    t8: u64,
-    r8: u64,
+    pub(crate) t8: u64,
+    pub(crate) r8: u64,
     up7: u64,
     down7: u64,
     power: u64,
@@ -68,12 +68,24 @@ fn product(a: u128, b: u64) -> Wide {
     Wide { low: low as u64, mid: high as u64, high: (high >> 64) as u64 }
 }
 
+/// The deceleration in m/s² / (10¹² s), s the greater of V and 1 km/h.
+#[inline(always)]
+pub(crate) fn deceleration(c: Course, s: u64, v0: u32) -> u64 {
+    c.power * (100 * s - 5 * v0 as u64) * 1000 + c.up7 * 100_000 * s - c.down7 * 100_000 * s
+}
+
+/// The speed that is left when the brake begins to act, in m/s / (9·10¹⁵).
+#[inline(always)]
+pub(crate) fn beta(c: Course, v: u32, v0: u32) -> u64 {
+    let (speed, target) = (v as u64 * KMH, v0 as u64 * KMH);
+    (speed + 9 * c.down7 * c.t8).saturating_sub(9 * c.up7 * c.t8).max(target)
+}
+
 #[inline(always)]
 fn motion(c: Course, v: u32, v0: u32) -> Motion {
     let s = v.max(1) as u64;
-    let a = c.power * (100 * s - 5 * v0 as u64) * 1000 + c.up7 * 100_000 * s - c.down7 * 100_000 * s;
+    let (a, beta) = (deceleration(c, s, v0), beta(c, v, v0));
     let (speed, target) = (v as u64 * KMH, v0 as u64 * KMH);
-    let beta = (speed + 9 * c.down7 * c.t8).saturating_sub(9 * c.up7 * c.t8).max(target);
     let square = (beta - target) as u128 * (beta + target) as u128;
     Motion { a, beta, speed, part: product(square, 50_000 * s), scale: product(8_100_000_000_000_000_000_000, a) }
 }
@@ -92,8 +104,13 @@ fn scaled(curve: Curve, c: Course, m: &Motion) -> Wide {
 }
 
 #[inline(always)]
-fn distance(curve: Curve, c: Course, m: &Motion) -> u32 {
+fn distance_of(curve: Curve, c: Course, m: &Motion) -> u32 {
     wide::quotient_up_inline(scaled(curve, c, m), m.scale)
+}
+
+#[inline(always)]
+pub(crate) fn distance(curve: Curve, c: Course, v: u32, v0: u32) -> u32 {
+    distance_of(curve, c, &motion(c, v, v0))
 }
 
 /// Whether dp + di from v0 to v0 is not below 0.05 m/s².
@@ -115,10 +132,10 @@ pub extern "C" fn step(train: Train, v: u32, v0: u32, gradient: i32) -> Distance
     let m = motion(c, v, v0);
     Distances {
         refusal: 0,
-        ebi: distance(Curve::Ebi, c, &m),
-        sbi: distance(Curve::Sbi, c, &m),
-        w: distance(Curve::W, c, &m),
-        p: distance(Curve::P, c, &m),
+        ebi: distance_of(Curve::Ebi, c, &m),
+        sbi: distance_of(Curve::Sbi, c, &m),
+        w: distance_of(Curve::W, c, &m),
+        p: distance_of(Curve::P, c, &m),
     }
 }
 
@@ -127,6 +144,6 @@ pub extern "C" fn step(train: Train, v: u32, v0: u32, gradient: i32) -> Distance
 pub fn row(curve: Curve, train: Train, v0: u32, gradient: i32, row: &mut [u32]) {
     let c = course(train, gradient);
     for (v, place) in (v0..).zip(row) {
-        *place = distance(curve, c, &motion(c, v, v0));
+        *place = distance(curve, c, v, v0);
     }
 }

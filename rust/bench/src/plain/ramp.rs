@@ -8,12 +8,12 @@ const LONGEST: u64 = 1 << 20;
 
 /// Times in ms, speeds and decelerations scaled by twice the rise time.
 pub(crate) struct Plan {
-    start: u64,
-    up: u64,
-    down: u64,
-    brake: u64,
-    tm: u64,
-    tr: u64,
+    pub(crate) start: u64,
+    pub(crate) up: u64,
+    pub(crate) down: u64,
+    pub(crate) brake: u64,
+    pub(crate) tm: u64,
+    pub(crate) tr: u64,
 }
 
 pub(crate) fn plan(braked_weight: u32, gradient: i32, v: u32, tm: u32, tr: u32) -> Plan {
@@ -32,18 +32,20 @@ pub(crate) fn plan(braked_weight: u32, gradient: i32, v: u32, tm: u32, tr: u32) 
 impl Plan {
     /// How long the brake has acted at t, and how long in full.
     #[inline(always)]
-    fn acted(&self, t: u64) -> (u64, u64) {
+    pub(crate) fn acted(&self, t: u64) -> (u64, u64) {
         (t.saturating_sub(self.tm), t.saturating_sub(self.tm + self.tr))
     }
 
     #[inline(always)]
-    fn forward(&self, t: u64) -> bool {
+    pub(crate) fn forward(&self, t: u64) -> bool {
         let (acted, full) = self.acted(t);
         self.up * t + self.brake * (acted * acted - full * full) <= self.start + self.down * t
     }
 
-    fn last_forward(&self) -> u64 {
-        let (mut low, mut high) = (0, LONGEST);
+    /// The last millisecond before `high`, by which it rolls back, at which it does not.
+    #[inline(always)]
+    pub(crate) fn last_forward(&self, mut high: u64) -> u64 {
+        let mut low = 0;
         while high - low > 1 {
             let middle = low + (high - low) / 2;
             *(if self.forward(middle) { &mut low } else { &mut high }) = middle;
@@ -52,7 +54,7 @@ impl Plan {
     }
 
     /// Raised to the least whole millimetre not below.
-    fn place(&self, t: u64) -> u32 {
+    pub(crate) fn place(&self, t: u64) -> u32 {
         let (acted, full) = self.acted(t);
         let cubes = acted * acted * acted - full * full * full;
         let gain = 3 * t as u128 * (2 * self.start + self.down * t) as u128;
@@ -62,7 +64,7 @@ impl Plan {
 
     #[inline(always)]
     pub(crate) fn stop(&self) -> Stop {
-        let t = self.last_forward();
+        let t = self.last_forward(LONGEST);
         Stop { refusal: 0, distance: self.place(t) + 1, moment: t as u32 }
     }
 }

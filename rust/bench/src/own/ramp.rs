@@ -1,0 +1,56 @@
+//! The ramp: one quotient for a stop under full braking, and the place in one word up to 2¹⁹ ms.
+use crate::plain::ramp::{self as plain, Plan};
+use crate::plain::step::{nominal, slope};
+use approach::raw::Stop;
+
+/// Up to here, in ms, every number of the place is one word long.
+const WORD: u64 = 1 << 19;
+
+/// A millimetre, as a place is counted in one word.
+const MILLIMETRE: u64 = 180_000_000_000;
+
+#[inline(always)]
+fn moment(m: &Plan) -> u64 {
+    let full = m.tm + m.tr;
+    if m.forward(full) {
+        (m.start + m.brake * m.tr * (2 * m.tm + m.tr)) / (2 * m.brake * m.tr + m.up - m.down)
+    } else {
+        m.last_forward(full)
+    }
+}
+
+/// Without the rise time as a factor: V, the slope and the brake.
+pub(crate) struct Pace {
+    speed: u64,
+    rise: u64,
+    fall: u64,
+    power: u64,
+}
+
+fn pace(braked_weight: u32, gradient: i32, v: u32) -> Pace {
+    let (up7, down7) = slope(gradient);
+    Pace { speed: 50_000_000_000 * v as u64, rise: 9 * up7, fall: 9 * down7, power: 270 * nominal(braked_weight) }
+}
+
+#[inline(always)]
+fn place(m: &Plan, p: &Pace, t: u64) -> u32 {
+    if t > WORD {
+        return m.place(t);
+    }
+    let (acted, full) = m.acted(t);
+    let cubes = acted * acted * acted - full * full * full;
+    let braked = p.power * (cubes / m.tr) + p.power * (cubes % m.tr) / m.tr;
+    (t * (p.speed + p.fall * t) - p.rise * t * t - braked).div_ceil(MILLIMETRE) as u32
+}
+
+#[inline(always)]
+pub(crate) fn stop(braked_weight: u32, gradient: i32, v: u32, tm: u32, tr: u32) -> Stop {
+    let m = plain::plan(braked_weight, gradient, v, tm, tr);
+    let t = moment(&m);
+    Stop { refusal: 0, distance: place(&m, &pace(braked_weight, gradient, v), t) + 1, moment: t as u32 }
+}
+
+#[inline(never)]
+pub extern "C" fn ramp(braked_weight: u32, gradient: i32, v: u32, tm: u32, tr: u32) -> Stop {
+    stop(braked_weight, gradient, v, tm, tr)
+}

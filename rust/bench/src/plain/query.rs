@@ -1,0 +1,79 @@
+//! The approach query as one would write it in Rust where train and times are accepted: one pass over the sheet's bytes for its
+//! check, then two climbs over whole numbers. It stands behind a call that is not inlined, as the proved one does.
+use super::{ramp, sheet, step};
+use approach::raw::{Answer, Train, CURVE, RELEASE};
+use std::ops::RangeInclusive;
+
+/// The ramp's greatest speed in km/h.
+pub(crate) const FASTEST_CREEP: u32 = 100;
+
+/// How the two climbs are made, of a train whose brake is strong enough.
+pub(crate) trait Climbs {
+    /// The release speed, of an overlap in millimetres that has a length.
+    fn release(train: Train, tm: u32, tr: u32, gradient: i32, overlap: u32) -> u32;
+
+    /// The last speed that fits the distance to the signal; none where the release speed does not.
+    fn permitted(course: step::Course, release: u32, top_speed: u32, metres: u32) -> Option<u32>;
+}
+
+pub(crate) struct Plain;
+
+/// The last speed before the first that does not fit; none where the first of all does not.
+#[inline(always)]
+fn climb(speeds: RangeInclusive<u32>, fits: impl Fn(u32) -> bool) -> Option<u32> {
+    speeds.take_while(|&v| fits(v)).last()
+}
+
+impl Climbs for Plain {
+    #[inline(always)]
+    fn release(train: Train, tm: u32, tr: u32, gradient: i32, overlap: u32) -> u32 {
+        let fits = |v| ramp::plan(train.braked_weight, gradient, v, tm, tr).stop().distance <= overlap;
+        climb(1..=train.top_speed.min(FASTEST_CREEP), fits).unwrap_or(0)
+    }
+
+    #[inline(always)]
+    fn permitted(course: step::Course, release: u32, top_speed: u32, metres: u32) -> Option<u32> {
+        climb(release..=top_speed, |v| step::fits(course, v, release, 1000 * metres))
+    }
+}
+
+/// W, SBI and EBI in 120ths of a km/h.
+fn ceilings(permitted: u32) -> [u32; 3] {
+    let over = permitted.saturating_sub(110);
+    [480 + 4 * over.min(30), 600 + 6 * over.min(100), 900 + 9 * over.min(100)].map(|extra| 120 * permitted + extra)
+}
+
+#[inline(always)]
+fn answered<C: Climbs>(train: Train, tm: u32, tr: u32, sheet: &[u8], signal: u32, head: u32) -> Result<Answer, u32> {
+    let (stretches, signals) = sheet::checked(sheet).ok_or(7u32)?;
+    let (place, overlap) = sheet::numbered(signals, signal).ok_or(8u32)?;
+    let metres = place.checked_sub(head).ok_or(9u32)?;
+    let mut release = 0;
+    if overlap > 0 {
+        let past = sheet::least(stretches, place, place + overlap);
+        if !ramp::strong(train.braked_weight, past) {
+            return Err(10);
+        }
+        release = C::release(train, tm, tr, past, 1000 * overlap);
+    }
+    let course = step::course(train, sheet::least(stretches, head, place + 1));
+    if !step::strong(course, release) {
+        return Err(10);
+    }
+    let last = C::permitted(course, release, train.top_speed, metres);
+    let (permitted, mark) = last.map_or((release, RELEASE), |v| (v, CURVE));
+    let [w, sbi, ebi] = ceilings(permitted);
+    Ok(Answer { refusal: 0, release, permitted, mark, w, sbi, ebi })
+}
+
+/// Refusals 7 to 10 are its own; the caller sees to those of the train and the times.
+#[inline(always)]
+pub(crate) fn answer_by<C: Climbs>(train: Train, tm: u32, tr: u32, sheet: &[u8], signal: u32, head: u32) -> Answer {
+    let refused = |refusal| Answer { refusal, release: 0, permitted: 0, mark: 0, w: 0, sbi: 0, ebi: 0 };
+    answered::<C>(train, tm, tr, sheet, signal, head).unwrap_or_else(refused)
+}
+
+#[inline(never)]
+pub fn query(train: Train, tm: u32, tr: u32, sheet: &[u8], signal: u32, head: u32) -> Answer {
+    answer_by::<Plain>(train, tm, tr, sheet, signal, head)
+}
