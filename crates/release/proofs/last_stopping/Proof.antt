@@ -61,8 +61,9 @@ loop-again : tie.Need-loop-again Inv-loop μ-loop
 loop-again c =
     let i = c .before .before .before .before in
     let l = i .before in
-    let a = l .before .before .before .args in
-    next (stopsWithin (a .k) (a .o) (a .overlap)) _ _ (i .if1 .left) (l .loop .inv) (tested (c .before) ∙ not-false _ (c .if3 .left))
+    let h = l .before .before in
+    let a = h .before .args in
+    next (stopsWithin (a .k) (a .o) (a .overlap)) (h .highest .result .0) (l .loop .v) (i .if1 .left) (l .loop .inv) (tested (c .before) ∙ not-false _ (c .if3 .left))
 
 loop-less-2 : tie.Need-loop-less-2 Inv-loop μ-loop
 loop-less-2 c = omega (arith, c .before .if1 .left)
@@ -70,8 +71,9 @@ loop-less-2 c = omega (arith, c .before .if1 .left)
 loop-again-2 : tie.Need-loop-again-2 Inv-loop μ-loop
 loop-again-2 c =
     let l = c .before .before in
-    let a = l .before .before .before .args in
-    next (stopsWithin (a .k) (a .o) (a .overlap)) _ _ (c .before .if1 .left) (l .loop .inv) (l .before .surely-stopping .ensures .1 .each _ (omega arith) (c .if2 .left))
+    let h = l .before .before in
+    let a = h .before .args in
+    next (stopsWithin (a .k) (a .o) (a .overlap)) (h .highest .result .0) (l .loop .v) (c .before .if1 .left) (l .loop .inv) (l .before .surely-stopping .ensures .1 .each _ (omega arith) (c .if2 .left))
 
 returns : tie.Need-returns Inv-loop μ-loop
 returns c =
