@@ -53,7 +53,7 @@ module _ (m : Plan) where
       ((t ⊕ h) ⊗ Slow up dp t S) ((t ⊕ h) ⊗ Fast Vo dn t) refl)
       l
 
-  -- and the place no further
+  -- and the place is no further
   behind : (s z : ℕ) → (s + z ≡ 0) ⊎ (0 < s + z) → slow m (s + z) ≤ fast m (s + z) → gain m s + loss m (s + z) ≤ gain m (s + z) + loss m s
   behind s z (inl e) v =
       let e₁ : s ≡ 0 = omega arith in

@@ -52,8 +52,8 @@ fn highest(top: Kmh) -> Kmh
     if top.0 < 100 { top } else { Kmh(100) }
 }
 
-// A speed up to which the climb need not ask: a slower train stops no further. Between low, at which the train stops within the
-// overlap, and high, at which it does not or which is past the last, halved until they are neighbours.
+// A speed up to which the climb need not ask: a slower train stops no further, so where one speed fits, each below it does.
+// Between low, which is 0 or fits, and high, which does not fit or is past the last, halved until they are neighbours.
 fn surely_stopping(k: Coefficients, o: Overrun, overlap: Metre, last: Kmh) -> Kmh
     requires { ⌜ Within k × (firstOf (rampRefusals k (atSpeed o 1)) ≡ 0) × (last .0 ≤ 100) ⌝ }
     ensures { λ r. ⌜ (r .0 ≤ last .0) × Sure k o overlap (r .0) ⌝ }
@@ -71,7 +71,7 @@ fn surely_stopping(k: Coefficients, o: Overrun, overlap: Metre, last: Kmh) -> Km
     Kmh(low)
 }
 
-// The climb from 1 km/h.
+// The climb from 1 km/h. The ramp is asked only above the sure speed.
 fn last_stopping(k: Coefficients, o: Overrun, overlap: Metre, top: Kmh) -> Kmh
     requires { ⌜ Within k × (firstOf (rampRefusals k (atSpeed o 1)) ≡ 0) ⌝ }
     ensures { λ r. ⌜ r .0 ≡ climb (stopsWithin k o overlap) 0 (min 100 (top .0)) ⌝ }

@@ -1,4 +1,4 @@
--- Every accepted train has begun to roll back by the longest time, so there is a last millisecond before it does; and which, if the brake acts in full.
+-- Every accepted train has begun to roll back by the longest time, so there is a last millisecond before it does, and which, if the brake acts in full; after it, it rolls on.
 use mathlib.Core.Path.{_≡_, refl, sym, ap, _∙_}
 use mathlib.Core.List.{[], _∷_}
 use Prim.Native.Nat.{ℕ, zero, suc, _+_, _*_, _-_, _/_, _≤_, _<_}

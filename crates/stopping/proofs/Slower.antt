@@ -1,17 +1,16 @@
 -- A slower train stops no later and no further.
 use mathlib.Core.List.{[], _∷_}
 use mathlib.Core.Path.{refl}
-use Prim.Native.Nat.{ℕ, _+_, _*_, _-_, _^_, _≤_, _<_}
+use Prim.Native.Nat.{ℕ, _*_, _-_, _^_, _≤_, _<_}
 use native.Mathlib.Omega.{arith}
 use native.Mathlib.Nat.{le-refl, le-trans, mul-pos, lt-of-not-le}
 use native.Mathlib.Decide.{decLe}
 use lib.Dec.{lit<}
-use Rattle.exact.specs.Fraction.{_over_, raised}
 use Rattle.exact.proofs.Certificate.{x0, x1, x2, x3, done, times, cert}
 use Rattle.exact.proofs.Polynomial.{num, _⊗_}
 use Rattle.exact.proofs.Raised.{raised-over-le}
 use Rattle.motion.specs.declared.Plan.{Plan}
-use Rattle.motion.specs.Plan.{fast, slow, gain, loss}
+use Rattle.motion.specs.Plan.{gain, loss}
 use Rattle.motion.proofs.Furthest.{Gain, no-further}
 use Rattle.stopping.specs.Stop.{Turns, placeUp}
 use Rattle.stopping.proofs.Rolling.{rolls-on}
