@@ -4,7 +4,7 @@ use mathlib.Core.List.{List, [], _∷_}
 use mathlib.Core.Logic.{_⊎_, inl, inr}
 use Prim.Native.Nat.{ℕ, _+_, _*_, _≤_, _<_}
 use native.Mathlib.Omega.{arith}
-use native.Mathlib.Nat.{eq-zero-or-pos, le-of-mul-le-mul-left, le-dest, le-of-lt, lt-of-not-le, mul-le-mul-left, mul-pos, mul-add, mul-zero, add-zero, zero-add}
+use native.Mathlib.Nat.{eq-zero-or-pos, le-of-mul-le-mul-left, le-dest, le-of-lt, lt-of-not-le, mul-le-mul-left, mul-pos, mul-add, mul-zero, add-zero}
 use native.Mathlib.Decide.{decLe}
 use Rattle.exact.proofs.Polynomial.{Expr, num, _⊕_, _⊗_}
 use Rattle.exact.proofs.Certificate.{ring, done, times, cert}
@@ -53,7 +53,7 @@ module _ (m : Plan) where
       ((t ⊕ h) ⊗ Slow up dp t S) ((t ⊕ h) ⊗ Fast Vo dn t) refl)
       l
 
-  -- and the place no further
+  -- and the place is no further
   behind : (s z : ℕ) → (s + z ≡ 0) ⊎ (0 < s + z) → slow m (s + z) ≤ fast m (s + z) → gain m s + loss m (s + z) ≤ gain m (s + z) + loss m s
   behind s z (inl e) v =
       let e₁ : s ≡ 0 = omega arith in
@@ -65,11 +65,13 @@ module _ (m : Plan) where
       (times (num 3 ⊗ h) (Slow up dp (t ⊕ h) S′) (Fast Vo dn (t ⊕ h)) v (times (num 3 ⊗ h) (Slow up dp t S) (Fast Vo dn t) (earlier s z l v) done)))
       (Gain Vo dn t ⊕ Loss up dp (t ⊕ h) C′) (Gain Vo dn (t ⊕ h) ⊕ Loss up dp t C) refl
 
+  pub no-further : (s t : ℕ) → s ≤ t → slow m t ≤ fast m t → gain m s + loss m t ≤ gain m t + loss m s
+  no-further s t p v = let (z, e) = le-dest p in rw e at (behind s z (eq-zero-or-pos (s + z)) (rw e v))
+
   -- where the speed is at least 0, so is the place
   pub ahead : (z : ℕ) → slow m z ≤ fast m z → loss m z ≤ gain m z
   ahead z v =
-      let e : 0 + z ≡ z = zero-add z in
-      let l : gain m 0 + loss m z ≤ gain m z + loss m 0 = rw e at (behind 0 z (eq-zero-or-pos (0 + z)) (rw e v)) in
+      let l : gain m 0 + loss m z ≤ gain m z + loss m 0 = no-further 0 z (omega arith) v in
       let g : 2 * m .brake * cubes (m .tm) (m .tr) 0 ≡ 0 = rw (cubes-start (m .tm) (m .tr)) (mul-zero (2 * m .brake)) in
       omega arith
 
@@ -96,8 +98,7 @@ module _ (m : Plan) where
 module _ (m : Plan) (t₀ H : ℕ) (l : 0 < H) (v₀ : slow m t₀ ≤ fast m t₀) (v₁ : fast m (t₀ + H) ≤ slow m (t₀ + H)) where
   cases : (s : ℕ) → Dec (s ≤ t₀) → Dec (s ≤ t₀ + H) → NoFurther m t₀ H s
   cases s (yes p) q =
-      let (z, e) = le-dest p in
-      let r : gain m s + loss m t₀ ≤ gain m t₀ + loss m s = rw e at (behind m s z (eq-zero-or-pos (s + z)) (rw e v₀)) in
+      let r = no-further m s t₀ p v₀ in
       omega (arith, mul-le-mul-left (6 * H) v₀)
   cases s (no p) (yes q) =
       let (z, e) = le-dest (le-of-lt (lt-of-not-le p)) in

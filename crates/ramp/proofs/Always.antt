@@ -1,6 +1,7 @@
 -- Every accepted input keeps the promise, by the definitions alone.
-use mathlib.Core.Path.{_≡_, _∙_}
+use mathlib.Core.Path.{_≡_, sym, _∙_}
 use mathlib.Core.Bool.{true}
+use Prim.Native.Nat.{ℕ, _+_}
 use borrow.Author.Tests.{leb-true, not-false}
 use lib.Dec.{lit≤}
 use Rattle.train.specs.declared.Coefficients.{Coefficients}
@@ -8,8 +9,12 @@ use Rattle.train.specs.Coefficients.{Within}
 use Rattle.train.specs.Refusal.{firstOf}
 use Rattle.train.proofs.Refusals.{none-before, none-holds}
 use Rattle.motion.specs.declared.Overrun.{Overrun}
+use Rattle.motion.specs.declared.Plan.{Plan}
+use Rattle.motion.specs.Plan.{IsPlan}
 use Rattle.motion.proofs.Planned.{planOf, planOf-is}
+use Rattle.planning.specs.Fair.{Fair, Small}
 use Rattle.planning.proofs.Whole.{planOf-small}
+use Rattle.stopping.specs.Stop.{Turns, placeUp}
 use Rattle.stopping.proofs.Rolling.{turns}
 use Rattle.ramp.specs.Answer.{inputs, strong, weak, rampRefusals, moment, distance, leeway, Promise}
 use Rattle.ramp.proofs.Moment.{moment-is}
@@ -20,11 +25,25 @@ module _ (k : Coefficients) (o : Overrun) (z : firstOf (rampRefusals k o) ≡ 0)
   pub is-strong : strong k o ≡ true
   is-strong = not-false _ (none-holds 0 (rampRefusals k o) (ramp-rising k o) z .1 .1 .1 .1 .1 .1 .1 .1 .1 .1 .0)
 
-  pub always : Within k → Promise k o leeway (distance k o) (moment k o)
-  always w =
-      let f = inputs-fit o (none-before (inputs o) (weak k o) z) in
-      let m = planOf k o in
-      let is = planOf-is k o (f .some) in
-      let s = planOf-small k o w f in
-      let (t, h) = turns m s (leb-true _ _ (strong-is k o m is s ∙ is-strong)) in
-      rw (← distance-is k o m is s t h, ← moment-is k o m is (s .some) t h) (wider k o 2 _ _ _ (lit≤ tt) (promised k o m is s t h))
+  -- its motion in whole numbers, and the moment at which it turns
+  module _ (w : Within k) where
+    fair : Fair o
+    fair = inputs-fit o (none-before (inputs o) (weak k o) z)
+
+    abbrev m : Plan
+    m = planOf k o
+
+    is : IsPlan k o m
+    is = planOf-is k o (fair .some)
+
+    pub small : Small m
+    small = planOf-small k o w fair
+
+    pub turning : (t : ℕ) × Turns m t
+    turning = turns m small (leb-true _ _ (strong-is k o m is small ∙ is-strong))
+
+    pub gets-to : distance k o ≡ placeUp m (turning .0) + 1
+    gets-to = sym (distance-is k o m is small (turning .0) (turning .1))
+
+    pub always : Promise k o leeway (distance k o) (moment k o)
+    always = let (t, h) = turning in rw (gets-to, ← moment-is k o m is (small .some) t h) (wider k o 2 _ _ _ (lit≤ tt) (promised k o m is small t h))

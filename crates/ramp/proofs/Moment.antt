@@ -4,7 +4,7 @@ use mathlib.Core.Bool.{Bool, true, false, cond}
 use mathlib.Core.List.{[], _∷_}
 use Prim.Native.Nat.{ℕ, zero, suc, _+_, _*_, _^_, _≤_, _<_}
 use native.Mathlib.Omega.{arith}
-use native.Mathlib.Nat.{mul-pos, le-dest, lt-of-not-le}
+use native.Mathlib.Nat.{mul-pos, lt-of-not-le}
 use native.Mathlib.Decide.{decLe}
 use borrow.Author.Tests.{le-leb, lt-leb}
 use lib.Dec.{leb, lit<}
@@ -19,9 +19,10 @@ use Rattle.motion.specs.declared.Overrun.{Overrun}
 use Rattle.motion.specs.declared.Plan.{Plan}
 use Rattle.motion.specs.Motion.{speedAt, placeAt}
 use Rattle.motion.specs.Plan.{IsPlan, fast, slow, gain, loss}
-use Rattle.motion.proofs.Furthest.{earlier, fast-fine, slow-fine, gain-fine, loss-fine}
+use Rattle.motion.proofs.Furthest.{fast-fine, slow-fine, gain-fine, loss-fine}
 use Rattle.motion.proofs.Phases.{place-is, speed-is}
 use Rattle.stopping.specs.Stop.{Turns, longest}
+use Rattle.stopping.proofs.Rolling.{rolls-on}
 use Rattle.ramp.specs.Answer.{lastBelow, moment}
 
 last-is : (n t : ℕ) (b : ℕ → Bool) → t < n → b t ≡ true → ((s : ℕ) → t < s → b s ≡ false) → t ≡ lastBelow n b
@@ -32,17 +33,6 @@ last-is (suc n) t b l e f = go (decLe n t) (λ h. last-is n t b h e f)
     go : Dec (n ≤ t) → (t < n → t ≡ lastBelow n b) → t ≡ cond (b n) n (lastBelow n b)
     go (yes h) g = let i : n ≡ t = omega arith in rw (i, e) refl
     go (no h) g = rw (f n (lt-of-not-le h)) (g (lt-of-not-le h))
-
--- once it has begun to roll back it rolls back for ever
-pub rolls-on : (m : Plan) (t : ℕ) → Turns m t → (s : ℕ) → t < s → fast m s < slow m s
-rolls-on m t h s l = go (decLe (slow m s) (fast m s))
-  where
-    go : Dec (slow m s ≤ fast m s) → fast m s < slow m s
-    go (no i) = lt-of-not-le i
-    go (yes i) =
-        let (z, e) = le-dest {n = t + 1} {m = s} (omega arith) in
-        let j : slow m (t + 1) ≤ fast m (t + 1) = earlier m (t + 1) z (omega arith) (rw e i) in
-        absurd (let n : ⊥ = omega (arith, h .back) in n)
 
 module _ (k : Coefficients) (o : Overrun) (m : Plan) (is : IsPlan k o m) (l : 0 < m .tr) where
   -- at a whole millisecond

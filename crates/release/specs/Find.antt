@@ -1,14 +1,19 @@
 -- What the code finds; nobody has to believe this.
 use mathlib.Core.Path.{_≡_}
 use mathlib.Core.Bool.{true, false}
+use Prim.Native.Nat.{ℕ, _≤_, _<_}
 use Rattle.train.specs.declared.Kmh.{Kmh}
 use Rattle.train.specs.declared.Metre.{Metre}
 use Rattle.train.specs.declared.Coefficients.{Coefficients}
 use Rattle.motion.specs.declared.Overrun.{Overrun}
 use Rattle.release.specs.declared.Release.{Release}
 use Rattle.release.specs.declared.Release.the-variants.{Weak, Speed}
-use Rattle.release.specs.Release.{releaseOf, weakPast}
+use Rattle.release.specs.Release.{stopsWithin, releaseOf, weakPast}
 
 abbrev pub Releases : Coefficients → Overrun → Metre → Kmh → Release → Type 0
 Releases k o overlap top Weak = weakPast k o overlap ≡ true
 Releases k o overlap top (Speed v) = (weakPast k o overlap ≡ false) × (v .0 ≡ releaseOf k o overlap top)
+
+-- from every speed up to this one the train stops within the overlap
+pub record Sure (k : Coefficients) (o : Overrun) (overlap : Metre) (sure : ℕ) : Type 0 where
+  pub each : (v : ℕ) → 0 < v → v ≤ sure → stopsWithin k o overlap v ≡ true

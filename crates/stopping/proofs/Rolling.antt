@@ -1,16 +1,16 @@
--- Every accepted train has begun to roll back by the longest time, so there is a last millisecond before it does; and which, if the brake acts in full.
+-- Every accepted train has begun to roll back by the longest time, so there is a last millisecond before it does, and which, if the brake acts in full; after it, it rolls on.
 use mathlib.Core.Path.{_≡_, refl, sym, ap, _∙_}
 use mathlib.Core.List.{[], _∷_}
 use Prim.Native.Nat.{ℕ, zero, suc, _+_, _*_, _-_, _/_, _≤_, _<_}
 use native.Mathlib.Omega.{arith}
-use native.Mathlib.Nat.{mul-zero, mul-comm, le-refl, le-of-eq, lt-of-not-le, div-mul-le-self, lt-div-mul-add, le-div-iff-mul-le, div-lt-iff-lt-mul}
+use native.Mathlib.Nat.{mul-zero, mul-comm, le-refl, le-of-eq, le-dest, lt-of-not-le, div-mul-le-self, lt-div-mul-add, le-div-iff-mul-le, div-lt-iff-lt-mul}
 use native.Mathlib.Decide.{decLe}
 use Rattle.exact.proofs.Polynomial.{num, _⊕_, _⊗_}
 use Rattle.exact.proofs.Certificate.{x0, x1, x2, x3, x4, x5, x6, x7, x8, x9, done, times, cert, equal}
 use Rattle.motion.specs.declared.Plan.{Plan}
 use Rattle.motion.specs.Plan.{full, squares, fast, slow}
 use Rattle.motion.proofs.Brake.{sq, SQ, squares-is, squares-start}
-use Rattle.motion.proofs.Furthest.{Fast, Slow}
+use Rattle.motion.proofs.Furthest.{Fast, Slow, earlier}
 use Rattle.planning.specs.Fair.{Small, Enough}
 use Rattle.stopping.specs.Stop.{Turns, longest}
 
@@ -115,3 +115,14 @@ turns-within m (suc n) low still back early =
 
 pub turns : (m : Plan) → Small m → Enough m → (t : ℕ) × Turns m t
 turns m s h = turns-within m longest 0 (at-start m) (at-end m s h) (le-refl longest)
+
+-- once it has begun to roll back it rolls back for ever
+pub rolls-on : (m : Plan) (t : ℕ) → Turns m t → (s : ℕ) → t < s → fast m s < slow m s
+rolls-on m t h s l = go (decLe (slow m s) (fast m s))
+  where
+    go : Dec (slow m s ≤ fast m s) → fast m s < slow m s
+    go (no i) = lt-of-not-le i
+    go (yes i) =
+        let (z, e) = le-dest {n = t + 1} {m = s} (omega arith) in
+        let j : slow m (t + 1) ≤ fast m (t + 1) = earlier m (t + 1) z (omega arith) (rw e i) in
+        absurd (let n : ⊥ = omega (arith, h .back) in n)

@@ -1,68 +1,96 @@
--- `last_stopping`: the climb from the speed reached is the whole climb.
+-- `last_stopping`: the climb from the speed reached is the whole climb. Up to the sure speed each stops; above it the test says.
 use borrow.Author.Needs.{needs}
 use borrow.Author.Tests.{not-true, not-false}
 use mathlib.Core.Path.{_≡_, sym, ap, _∙_}
-use Prim.Native.Nat.{_+_, _-_, _≤_, _<_}
+use mathlib.Core.Bool.{Bool, true}
+use Prim.Native.Nat.{ℕ, _+_, _-_, _≤_, _<_}
 use native.Mathlib.Omega.{arith}
 use Rattle.climb.specs.Climb.{climb}
 use Rattle.release.specs.Release.{stopsWithin}
 use Rattle.climb.proofs.Climbing.{goes-on, stops-at, ends-at}
-use Rattle.release.proofs.Past.{any-speed}
+use Rattle.release.proofs.Past.{accepted}
 use Rattle.release.proofs.last_stopping.Statement.{statement}
 use Rattle.release.proofs.last_stopping.Tie as tie
 
+abbrev Reached : (ℕ → Bool) → ℕ → ℕ → Type 0
+Reached fits end v = (v ≤ end) × (climb fits v (end - v) ≡ climb fits 0 end)
+
+-- where the next speed fits, it is reached
+next : (fits : ℕ → Bool) (end v : ℕ) → v < end → Reached fits end v → fits (v + 1) ≡ true → Reached fits end (v + 1)
+next fits end v h r e = (omega arith, goes-on fits v end h e ∙ r .1)
+
 abbrev Inv-loop : tie.InvT-loop
-Inv-loop k o overlap end v₀ v = (v ≤ end) × (climb (stopsWithin k o overlap) v (end - v) ≡ climb (stopsWithin k o overlap) 0 end)
+Inv-loop k o overlap end sure v₀ v = Reached (stopsWithin k o overlap) end v
 
 abbrev μ-loop : tie.MeasureT-loop
-μ-loop k o overlap end v₀ v = end - v
+μ-loop k o overlap end sure v₀ v = end - v
 
 -- the test is the definition's, at the next speed
-tested : (c : tie.After-stops-within Inv-loop μ-loop) → let a = c .before .before .before .before .before .args in
-    stopsWithin (a .k) (a .o) (a .overlap) (c .before .before .before .loop .v + 1) ≡ c .stops-within .result
+tested : (c : tie.After-stops-within Inv-loop μ-loop) → let l = c .before .before .before .before in let a = l .before .before .before .args in
+    stopsWithin (a .k) (a .o) (a .overlap) (l .loop .v + 1) ≡ c .stops-within .result
 tested c = sym (rw (c .before .at-speed .ensures) at (c .stops-within .ensures))
 
 highest-requires : tie.Need-highest-requires Inv-loop μ-loop
 highest-requires c κs = search needs
 
+surely-stopping-requires : tie.Need-surely-stopping-requires Inv-loop μ-loop
+surely-stopping-requires c κs = let p = c .before .pre in (p .0, p .1, omega (arith, c .highest .ensures))
+
 loop-holds : tie.Need-loop-holds Inv-loop μ-loop
-loop-holds c = let a = c .before .args in (omega arith, ap (climb (stopsWithin (a .k) (a .o) (a .overlap)) 0) (omega arith))
+loop-holds c = let a = c .before .before .args in (omega arith, ap (climb (stopsWithin (a .k) (a .o) (a .overlap)) 0) (omega arith))
 
 add-next : tie.Need-add-next Inv-loop μ-loop
-add-next c = let e = c .before .before .highest .ensures in omega (arith, c .if1 .left)
+add-next c = let e = c .before .before .before .highest .ensures in omega (arith, c .if1 .left)
 
 at-speed-requires : tie.Need-at-speed-requires Inv-loop μ-loop
 at-speed-requires c κs = search needs
 
 stops-within-requires : tie.Need-stops-within-requires Inv-loop μ-loop
 stops-within-requires c κs =
-    let s = c .before .before .before .before in
-    let e = c .before .before .before .highest .ensures in
-    rw (c .at-speed .ensures) (s .pre .0, any-speed (s .args .k) (s .args .o) (c .before .before .loop .v + 1) (omega arith) (omega (arith, c .before .if1 .left)) ∙ s .pre .1)
+    let l = c .before .before .before in
+    let e = l .before .before .highest .ensures in
+    let s = l .before .before .before in
+    let a = s .args in
+    rw (c .at-speed .ensures)
+    (s .pre .0, accepted (a .k) (a .o) (s .pre .1) (l .loop .v + 1) (omega arith) (omega (arith, c .before .before .if1 .left)))
 
 loop-less : tie.Need-loop-less Inv-loop μ-loop
-loop-less c = omega (arith, c .before .before .before .if1 .left)
+loop-less c = omega (arith, c .before .before .before .before .if1 .left)
 
 loop-again : tie.Need-loop-again Inv-loop μ-loop
 loop-again c =
-    let l = c .before .before .before .before in
-    let a = l .before .before .args in
-    let h : l .loop .v < l .before .highest .result .0 = c .before .before .before .if1 .left in
-    (omega arith, goes-on (stopsWithin (a .k) (a .o) (a .overlap)) (l .loop .v) _ h (tested (c .before) ∙ not-false _ (c .if2 .left)) ∙ l .loop .inv .1)
+    let i = c .before .before .before .before in
+    let l = i .before in
+    let h = l .before .before in
+    let a = h .before .args in
+    next (stopsWithin (a .k) (a .o) (a .overlap)) (h .highest .result .0) (l .loop .v) (i .if1 .left) (l .loop .inv) (tested (c .before) ∙ not-false _ (c .if3 .left))
+
+loop-less-2 : tie.Need-loop-less-2 Inv-loop μ-loop
+loop-less-2 c = omega (arith, c .before .if1 .left)
+
+loop-again-2 : tie.Need-loop-again-2 Inv-loop μ-loop
+loop-again-2 c =
+    let l = c .before .before in
+    let h = l .before .before in
+    let a = h .before .args in
+    next (stopsWithin (a .k) (a .o) (a .overlap)) (h .highest .result .0) (l .loop .v) (c .before .if1 .left) (l .loop .inv) (l .before .surely-stopping .ensures .1 .each _ (omega arith) (c .if2 .left))
 
 returns : tie.Need-returns Inv-loop μ-loop
 returns c =
     let l = c .before in
-    let a = l .before .before .args in
+    let h = l .before .before in
+    let a = h .before .args in
     let f = stopsWithin (a .k) (a .o) (a .overlap) in
-    ends-at f (l .loop .v) _ (l .loop .inv .0) (c .if1 .taken) ∙ l .loop .inv .1 ∙ ap (climb f 0) (l .before .highest .ensures)
+    ends-at f (l .loop .v) _ (l .loop .inv .0) (c .if1 .taken) ∙ l .loop .inv .1 ∙ ap (climb f 0) (h .highest .ensures)
 
 returns-2 : tie.Need-returns-2 Inv-loop μ-loop
 returns-2 c =
-    let l = c .before .before .before .before in
-    let a = l .before .before .args in
+    let i = c .before .before .before .before in
+    let l = i .before in
+    let h = l .before .before in
+    let a = h .before .args in
     let f = stopsWithin (a .k) (a .o) (a .overlap) in
-    stops-at f (l .loop .v) _ (c .before .before .before .if1 .left) (tested (c .before) ∙ not-true _ (c .if2 .taken)) ∙ l .loop .inv .1 ∙ ap (climb f 0) (l .before .highest .ensures)
+    stops-at f (l .loop .v) _ (i .if1 .left) (tested (c .before) ∙ not-true _ (c .if3 .taken)) ∙ l .loop .inv .1 ∙ ap (climb f 0) (h .highest .ensures)
 
 pub last-stopping-spec : {M : Type 1} → statement M
 last-stopping-spec =
@@ -71,11 +99,14 @@ last-stopping-spec =
     Inv-loop
     μ-loop
     highest-requires
+    surely-stopping-requires
     loop-holds
     add-next
     at-speed-requires
     stops-within-requires
     loop-less
     loop-again
+    loop-less-2
+    loop-again-2
     returns
     returns-2)
