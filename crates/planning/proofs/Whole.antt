@@ -1,7 +1,11 @@
 -- The plan's numbers are no larger than `Small` says.
+use mathlib.Core.Path.{refl}
+use mathlib.Core.List.{[], _∷_}
 use Prim.Native.Nat.{ℕ, _*_, _≤_}
 use native.Mathlib.Omega.{arith}
 use native.Mathlib.Nat.{le-refl, mul-le-mul}
+use Rattle.exact.proofs.Polynomial.{num, _⊗_}
+use Rattle.exact.proofs.Certificate.{x0, x1, ring}
 use Rattle.train.specs.declared.Coefficients.{Coefficients}
 use Rattle.train.specs.Coefficients.{Within}
 use Rattle.slope.proofs.Factors.{factor-small}
@@ -26,6 +30,16 @@ is-small o up7 dn7 dr5 f u n d =
       tm = omega (arith, f .tm);
       some = omega (arith, f .some);
       tr = omega (arith, f .tr);
+      counted = record {
+        speed = 50000000000 * o .v .0;
+        rise = 9 * up7;
+        fall = 9 * dn7;
+        power = 270 * dr5;
+        start-is = refl;
+        up-is = ring (up7 ∷ tr ∷ []) (num 18 ⊗ x0 ⊗ x1) (num 2 ⊗ (num 9 ⊗ x0) ⊗ x1) refl;
+        down-is = ring (dn7 ∷ tr ∷ []) (num 18 ⊗ x0 ⊗ x1) (num 2 ⊗ (num 9 ⊗ x0) ⊗ x1) refl;
+        brake-is = omega arith;
+      };
     }
 
 pub planOf-small : (k : Coefficients) (o : Overrun) → Within k → Fair o → Small (planOf k o)

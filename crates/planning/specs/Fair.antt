@@ -1,5 +1,6 @@
 -- What the code knows of a plan: how large its numbers are, and that its brake is strong enough.
-use Prim.Native.Nat.{_+_, _*_, _≤_, _<_}
+use mathlib.Core.Path.{_≡_}
+use Prim.Native.Nat.{ℕ, _+_, _*_, _≤_, _<_}
 use Rattle.train.specs.Gradient.{Moderate}
 use Rattle.motion.specs.declared.Overrun.{Overrun}
 use Rattle.motion.specs.declared.Plan.{Plan}
@@ -13,6 +14,17 @@ pub record Fair (o : Overrun) : Type 0 where
   pub some : 0 < o .tr
   pub tr : o .tr ≤ 3000
 
+-- V and the slope are whole numbers of tr, the brake one of 3
+pub record Counted (m : Plan) : Type 0 where
+  pub speed : ℕ
+  pub rise : ℕ
+  pub fall : ℕ
+  pub power : ℕ
+  pub start-is : m .start ≡ speed * m .tr
+  pub up-is : m .up ≡ 2 * rise * m .tr
+  pub down-is : m .down ≡ 2 * fall * m .tr
+  pub brake-is : m .brake ≡ 3 * power
+
 -- they make numbers no larger than these
 pub record Small (m : Plan) : Type 0 where
   pub start : m .start ≤ 5000000000000 * m .tr
@@ -22,6 +34,7 @@ pub record Small (m : Plan) : Type 0 where
   pub tm : m .tm ≤ 20000
   pub some : 0 < m .tr
   pub tr : m .tr ≤ 30000
+  pub counted : Counted m
 
 -- dp + di is 0.05 m/s² or more
 abbrev pub Enough : Plan → Type 0

@@ -1,3 +1,4 @@
 mod Bounds
 pub mod Rolling
 pub mod Slower
+pub mod Word

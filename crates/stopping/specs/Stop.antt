@@ -8,6 +8,10 @@ use Rattle.motion.specs.Plan.{fast, slow, gain, loss}
 abbrev pub longest : ℕ
 longest = 1048576
 
+-- up to here every number of the place is one word long
+abbrev pub wordLong : ℕ
+wordLong = 524288
+
 -- the speed is not below 0 at t ms, and is at the next
 pub record Turns (m : Plan) (t : ℕ) : Type 0 where
   pub still : slow m t ≤ fast m t

@@ -1,13 +1,16 @@
 // The place at a moment, in whole millimetres.
 ghost use mathlib.Core.Path.{_≡_};
-ghost use Prim.Native.Nat.{_≤_};
+ghost use Prim.Native.Nat.{_+_, _*_, _≤_, _<_};
 ghost use Rattle.wide.specs.Value.{valueOf};
 ghost use Rattle.motion.specs.Plan.{cubes, gain, loss};
 ghost use Rattle.planning.specs.Fair.{Small};
-ghost use Rattle.stopping.specs.Stop.{longest, placeUp};
+ghost use Rattle.stopping.specs.Stop.{longest, wordLong, placeUp};
 use super::search::since;
 use motion::Plan;
 use wide::Wide;
+
+// 2¹⁹ ms, some 9 minutes: few stops are later.
+const WORD_LONG: u64 = 524288;
 
 // What the brake takes off the place, but for a factor.
 fn cubes_at(tm: u64, tr: u64, t: u64) -> u64
@@ -37,8 +40,8 @@ fn loss_at(m: Plan, t: u64) -> Wide
     wide::sum(slope, brake)
 }
 
-// The least whole millimetre not below the place at t ms.
-pub fn place_up(m: Plan, t: u64) -> u32
+// By numbers of any length.
+fn by_wide(m: Plan, t: u64) -> u32
     requires { ⌜ Small m × (t ≤ longest) × (loss m t ≤ gain m t) ⌝ }
     ensures { λ r. ⌜ (r ≡ placeUp m t) × (r ≤ 300000000) ⌝ }
 {
@@ -46,4 +49,44 @@ pub fn place_up(m: Plan, t: u64) -> u32
     let unit = 1080000000000 * m.tr;
     let place = wide::difference(gain_at(m, t), loss_at(m, t));
     quotient::quotient_up(place, wide::from_word(unit))
+}
+
+// p x / tr, lowered. The product may be longer than a word: what x leaves over tr is taken by itself.
+fn product_over(p: u64, x: u64, tr: u64) -> u64
+    requires { ⌜ (p ≤ 32130000) × (0 < tr) × (tr ≤ 30000) × (p * x ≤ 13000000000000000000 * tr) ⌝ }
+    ensures { λ r. ⌜ (r * tr ≤ p * x) × (p * x < (r + 1) * tr) ⌝ }
+{
+    p * (x / tr) + p * (x % tr) / tr
+}
+
+// The mean speed up to t that V and the slope alone make, in 10⁻¹⁰ m/s / 18.
+fn mean_speed(m: Plan, t: u64) -> u64
+    requires { ⌜ Small m × (t ≤ longest) × (loss m t ≤ gain m t) ⌝ }
+    ensures { λ r. ⌜ r * (2 * m .tr) + m .up * t ≡ 2 * m .start + m .down * t ⌝ }
+{
+    (2 * m.start + m.down * t - m.up * t) / (2 * m.tr)
+}
+
+// By one word: a millimetre is 18·10¹⁰. The brake's part may be lowered to a whole number, since the place is raised.
+fn by_word(m: Plan, t: u64) -> u32
+    requires { ⌜ Small m × (t ≤ wordLong) × (loss m t ≤ gain m t) ⌝ }
+    ensures { λ r. ⌜ (r ≡ placeUp m t) × (r ≤ 300000000) ⌝ }
+{
+    let unbraked = mean_speed(m, t) * t;
+    let cubes = cubes_at(m.tm, m.tr, t);
+    let braked = product_over(m.brake / 3, cubes, m.tr);
+    let up = (unbraked - braked + 179999999999) / 180000000000;
+    up as u32
+}
+
+// The least whole millimetre not below the place at t ms.
+pub fn place_up(m: Plan, t: u64) -> u32
+    requires { ⌜ Small m × (t ≤ longest) × (loss m t ≤ gain m t) ⌝ }
+    ensures { λ r. ⌜ (r ≡ placeUp m t) × (r ≤ 300000000) ⌝ }
+{
+    if t <= WORD_LONG {
+        by_word(m, t)
+    } else {
+        by_wide(m, t)
+    }
 }

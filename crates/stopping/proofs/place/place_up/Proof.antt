@@ -1,51 +1,19 @@
--- `place_up`: the quotient fits, and is the place raised.
-use mathlib.Core.Path.{_≡_}
-use Prim.Native.Nat.{_-_}
+-- `place_up`: by one word or by wide numbers.
 use borrow.Author.Needs.{needs}
-use native.Mathlib.Omega.{arith}
-use Rattle.wide.specs.Value.{valueOf}
-use Rattle.motion.specs.Plan.{gain, loss}
-use Rattle.stopping.proofs.Bounds.{quotient-fits, place-from}
 use Rattle.stopping.proofs.place.place_up.Statement.{statement}
 use Rattle.stopping.proofs.place.place_up.Tie as tie
 
-left : (c : tie.After-difference) → let s = c .before .before .before .before in valueOf (c .difference .result) ≡ gain (s .args .m) (s .args .t) - loss (s .args .m) (s .args .t)
-left c = omega (arith, c .difference .ensures, c .before .loss-at .ensures, c .before .before .gain-at .ensures)
+by-word-requires : tie.Need-by-word-requires
+by-word-requires c κs = let s = c .before in (s .pre .0, c .if1 .taken, s .pre .2)
 
-mul-unit : tie.Need-mul-unit
-mul-unit c = search needs
-
-gain-at-requires : tie.Need-gain-at-requires
-gain-at-requires c κs = search needs
-
-loss-at-requires : tie.Need-loss-at-requires
-loss-at-requires c κs = search needs
-
-difference-requires : tie.Need-difference-requires
-difference-requires c κs = search needs
-
-from-word-requires : tie.Need-from-word-requires
-from-word-requires c κs = search needs
-
-quotient-up-requires : tie.Need-quotient-up-requires
-quotient-up-requires c κs =
-    let s = c .before .before .before .before .before in
-    quotient-fits _ _ (s .pre .0) (s .pre .1) _ _ (left (c .before)) (c .from-word .ensures)
+by-wide-requires : tie.Need-by-wide-requires
+by-wide-requires c κs = c .before .pre
 
 returns : tie.Need-returns
-returns c =
-    let f = c .before in
-    let s = f .before .before .before .before .before in
-    place-from _ _ (s .pre .0) (s .pre .1) _ _ _ (left (f .before)) (f .from-word .ensures) (c .quotient-up .ensures)
+returns c = c .by-word .ensures
+
+returns-2 : tie.Need-returns-2
+returns-2 c = c .by-wide .ensures
 
 pub place-up-spec : {M : Type 1} → statement M
-place-up-spec =
-    tie.close
-    (tie.spec
-    mul-unit
-    gain-at-requires
-    loss-at-requires
-    difference-requires
-    from-word-requires
-    quotient-up-requires
-    returns)
+place-up-spec = tie.close (tie.spec by-word-requires by-wide-requires returns returns-2)
