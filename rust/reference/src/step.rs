@@ -105,11 +105,17 @@ pub fn step(train: Train, v: u32, v0: u32, gradient: i32) -> Result<[u32; 4], u3
     Ok(distances.each_ref().map(millimetres))
 }
 
-/// P in millimetres before it is raised, or the refusal's number.
-pub fn exact_p(train: Train, v: u32, v0: u32, gradient: i32) -> Result<Fraction, u32> {
+/// EBI, SBI, W and P in millimetres before they are raised, or the refusal's number.
+pub fn exact(train: Train, v: u32, v0: u32, gradient: i32) -> Result<[Fraction; 4], u32> {
     check(train, v, v0, gradient)?;
-    let [.., p] = Braking::new(train, gradient).distances(v, v0)?;
-    Ok(in_millimetres(&p))
+    let distances = Braking::new(train, gradient).distances(v, v0)?;
+    Ok(distances.each_ref().map(in_millimetres))
+}
+
+/// P alone.
+pub fn exact_p(train: Train, v: u32, v0: u32, gradient: i32) -> Result<Fraction, u32> {
+    let [.., p] = exact(train, v, v0, gradient)?;
+    Ok(p)
 }
 
 /// One curve's distances for every V from V0 to the top speed, V0 first, or the refusal's number.
