@@ -23,19 +23,38 @@ module _ (fits : ℕ → Bool) where
   ends v = refl
 
   -- with an end
-  pub goes-on : (v end : ℕ) → v < end → fits (v + 1) ≡ true → climb fits (v + 1) (end - (v + 1)) ≡ climb fits v (end - v)
+  goes-on : (v end : ℕ) → v < end → fits (v + 1) ≡ true → climb fits (v + 1) (end - (v + 1)) ≡ climb fits v (end - v)
   goes-on v end h e =
       let n : end - v ≡ suc (end - (v + 1)) = omega arith in
       ap (λ w. climb fits w (end - (v + 1))) (add-one v) ∙ sym (goes v (end - (v + 1)) (ap fits (sym (add-one v)) ∙ e)) ∙ ap (climb fits v) (sym n)
 
-  pub stops-at : (v end : ℕ) → v < end → fits (v + 1) ≡ false → v ≡ climb fits v (end - v)
+  stops-at : (v end : ℕ) → v < end → fits (v + 1) ≡ false → v ≡ climb fits v (end - v)
   stops-at v end h e = let n : end - v ≡ suc (end - (v + 1)) = omega arith in rw n (sym (stops v (end - (v + 1)) (ap fits (sym (add-one v)) ∙ e)))
 
-  pub ends-at : (v end : ℕ) → v ≤ end → end ≤ v → end ≡ climb fits v (end - v)
+  ends-at : (v end : ℕ) → v ≤ end → end ≤ v → end ≡ climb fits v (end - v)
   ends-at v end l h =
       let n : end - v ≡ 0 = omega arith in
       let e : end ≡ v = omega arith in
       e ∙ sym (ends v) ∙ ap (climb fits v) (sym n)
+
+  -- a climb has reached v: what is left of it leads where the whole leads
+  pub record Reached (begin end v : ℕ) : Type 0 where
+    pub past : begin ≤ v
+    pub within : v ≤ end
+    pub left : climb fits v (end - v) ≡ climb fits begin (end - begin)
+
+  pub begins : (begin end : ℕ) → begin ≤ end → Reached begin end begin
+  begins begin end h = record { past = omega arith; within = h; left = refl }
+
+  module _ (begin end v : ℕ) (r : Reached begin end v) where
+    pub reaches-next : v < end → fits (v + 1) ≡ true → Reached begin end (v + 1)
+    reaches-next h e = record { past = omega (arith, r .past); within = omega arith; left = goes-on v end h e ∙ r .left }
+
+    pub stops-there : v < end → fits (v + 1) ≡ false → v ≡ climb fits begin (end - begin)
+    stops-there h e = stops-at v end h e ∙ r .left
+
+    pub ends-there : end ≤ v → end ≡ climb fits begin (end - begin)
+    ends-there h = ends-at v end (r .within) h ∙ r .left
 
   -- each speed up to it fits, and the next does not
   pub record Highest (v n r : ℕ) : Type 0 where

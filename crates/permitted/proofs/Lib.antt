@@ -1,1 +1,2 @@
 pub mod Fit
+mod Surely

@@ -1,7 +1,7 @@
 -- What the code asks for, tests and finds; nobody has to believe this.
 use mathlib.Core.Path.{_≡_}
 use mathlib.Core.Bool.{Bool, true, false}
-use Prim.Native.Nat.{ℕ, _*_, _-_, _^_}
+use Prim.Native.Nat.{ℕ, _*_, _-_, _^_, _≤_, _<_}
 use lib.Dec.{leb}
 use Rattle.train.specs.declared.Kmh.{Kmh}
 use Rattle.train.specs.declared.Metre.{Metre}
@@ -10,6 +10,7 @@ use Rattle.train.specs.declared.Gradient.{Gradient}
 use Rattle.train.specs.declared.Coefficients.{Coefficients}
 use Rattle.braking.specs.declared.Course.{Course}
 use Rattle.braking.specs.Braking.{strong}
+use Rattle.braking.specs.Plan.{Small, Enough}
 use Rattle.curve.specs.declared.Curve.the-variants.{P}
 use Rattle.curve.specs.Plan.{aOf, sumAt}
 use Rattle.climb.specs.Climb.{climb}
@@ -25,6 +26,18 @@ pub record Steady (k : Coefficients) : Type 0 where
 -- the fit without a division
 unfoldable pub fitsBy : Course → ℕ → ℕ → ℕ → Bool
 fitsBy c v0 d v = leb (sumAt P c v v0) (81 * 10 ^ 20 * aOf c v v0 * (1000 * d))
+
+-- what a climb from v0 to the top speed asks of the course: the train is strong enough at every speed, and KC does not fall
+pub record Climbing (c : Course) (v0 top : Kmh) : Type 0 where
+  pub small : Small c
+  pub steady : c .minus ≡ 0
+  pub enough : (v : ℕ) → v0 .0 ≤ v → Enough c v (v0 .0)
+  pub ahead : v0 .0 ≤ top .0
+  pub high : top .0 ≤ 330
+
+-- every speed above v0 up to this one fits
+pub record Sure (c : Course) (v0 d sure : ℕ) : Type 0 where
+  pub each : (v : ℕ) → v0 < v → v ≤ sure → fitsBy c v0 d v ≡ true
 
 module _ (k : Coefficients) (t : Train) (g : Gradient) (v0 : Kmh) (d : Metre) where
   abbrev pub Permits : Permitted → Type 0

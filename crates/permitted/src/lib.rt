@@ -1,12 +1,14 @@
 // The permitted speed: the highest up to which each speed can still be braked to the release speed before the signal.
 // Document 01, "Approach".
 ghost use mathlib.Core.Path.{_≡_};
-ghost use Prim.Native.Nat.{ℕ, _-_, _≤_};
+ghost use mathlib.Core.Bool.{true};
+ghost use Prim.Native.Nat.{ℕ, _+_, _-_, _≤_, _<_};
 ghost use Rattle.train.specs.Coefficients.{Within};
 ghost use Rattle.train.specs.Gradient.{Moderate};
+ghost use Rattle.train.specs.Units.{kmh};
 ghost use Rattle.braking.specs.Plan.{Small, Near, Enough};
 ghost use Rattle.climb.specs.Climb.{climb};
-ghost use Rattle.permitted.specs.Find.{fitsBy, Steady, Permits};
+ghost use Rattle.permitted.specs.Find.{fitsBy, Steady, Climbing, Sure, Permits};
 use braking::Course;
 use curve::Curve;
 use train::Coefficients;
@@ -30,19 +32,52 @@ fn fits(c: Course, v: Kmh, v0: Kmh, d: Metre) -> bool
     curve::fits(Curve::P, c, curve::terms_at(c, v, v0), d)
 }
 
-// The climb from v0, which fits. The wide numbers are asked only where the bounds of one word do not show a fit: mostly at its end.
+// Whether each of the next speeds after low surely fits.
+fn next_sure(c: Course, v0: Kmh, d: Metre, low: u32, stride: u32, end: u32) -> bool
+    requires { ⌜ Climbing c v0 (kmh end) × (v0 .0 ≤ low) × (low ≤ end) × (0 < stride) ⌝ }
+    ensures { λ r. ⌜ (r ≡ true → (low + stride ≤ end) × ((v : ℕ) → low < v → v ≤ low + stride → fitsBy c (v0 .0) (d .0) v ≡ true)) ⌝ }
+{
+    if stride > end - low {
+        return false;
+    }
+    let first = low + 1;
+    let last = low + stride;
+    quick::surely_fit(c, Kmh(first), Kmh(last), v0, d)
+}
+
+// A speed up to which the climb need not ask: the bounds show many speeds at once, ever fewer where the distance gets short.
+fn surely_fitting(c: Course, v0: Kmh, d: Metre, top: Kmh) -> Kmh
+    requires { ⌜ Climbing c v0 top ⌝ }
+    ensures { λ r. ⌜ (r .0 ≤ top .0) × Sure c (v0 .0) (d .0) (r .0) ⌝ }
+{
+    let end = top.0;
+    let mut low = v0.0;
+    let mut stride: u32 = 64;
+    while stride > 0 {
+        if next_sure(c, v0, d, low, stride, end) {
+            low += stride;
+        } else {
+            stride = stride / 2;
+        }
+    }
+    Kmh(low)
+}
+
+// The climb from v0, which fits. The wide numbers are asked only above the sure speed.
 fn last_fitting(c: Course, v0: Kmh, d: Metre, top: Kmh) -> Kmh
-    requires { ⌜ Small c × ((v : ℕ) → v0 .0 ≤ v → Enough c v (v0 .0)) × (v0 .0 ≤ top .0) × (top .0 ≤ 330) ⌝ }
+    requires { ⌜ Climbing c v0 top ⌝ }
     ensures { λ r. ⌜ r .0 ≡ climb (fitsBy c (v0 .0) (d .0)) (v0 .0) (top .0 - v0 .0) ⌝ }
 {
     let end = top.0;
+    let surely = surely_fitting(c, v0, d, top);
+    let sure = surely.0;
     let mut v = v0.0;
     let best = loop {
         if v >= end {
             break end;
         }
         let next = v + 1;
-        if !quick::surely_fits(c, Kmh(next), v0, d) {
+        if next > sure {
             if !fits(c, Kmh(next), v0, d) {
                 break v;
             }

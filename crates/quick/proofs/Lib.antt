@@ -1,3 +1,4 @@
 pub mod Settled
 pub mod Pair
 pub mod Steady
+pub mod Slower

@@ -6,7 +6,7 @@ ghost use Prim.Native.Nat.{ℕ, _+_, _*_, _^_, _≤_};
 ghost use Rattle.braking.specs.Plan.{Small, Near, Enough};
 ghost use Rattle.curve.specs.declared.Curve.the-variants.{P};
 ghost use Rattle.curve.specs.Plan.{aOf, sumAt, placeOf};
-ghost use Rattle.quick.specs.Bounds.{IsBounds, IsRun};
+ghost use Rattle.quick.specs.Bounds.{IsBounds, IsRun, NoWeaker};
 use braking::Course;
 use braking::strength;
 use curve::Curve;
@@ -14,7 +14,7 @@ use train::Kmh;
 use train::Metre;
 use train::Millimetre;
 
-// Of one pair of speeds, for every curve. Vβ in 9·10⁶ / (m/s), lowered; the braking part in µm is from least / (a + 1) to most / a.
+// For every curve: Vβ in m/s / (9·10⁶), lowered; the braking part in µm is from least / (a + 1) to most / a.
 pub struct Bounds {
     pub beta: u64,
     pub a: u64,
@@ -28,14 +28,14 @@ struct Run {
     high: u64,
 }
 
-// The bounds at one pair of speeds.
-pub fn bounds_at(c: Course, v: Kmh, v0: Kmh) -> Bounds
-    requires { ⌜ Small c × Near (v .0) (v0 .0) × Enough c (v .0) (v0 .0) ⌝ }
-    ensures { λ r. ⌜ IsBounds c (v .0) (v0 .0) r ⌝ }
+// The bounds with the deceleration at one speed, and the speed that is left at the same or a higher one.
+pub fn bounds_at(c: Course, from: Kmh, to: Kmh, v0: Kmh) -> Bounds
+    requires { ⌜ Small c × Near (from .0) (v0 .0) × Near (to .0) (v0 .0) × Enough c (from .0) (v0 .0) ⌝ }
+    ensures { λ r. ⌜ IsBounds c (from .0) (to .0) (v0 .0) r ⌝ }
 {
-    let s = strength::at(c, v, v0);
+    let s = strength::at(c, from, v0);
     let target = 2500000 * v0.0 as u64;
-    let low = strength::beta(c, v, v0) / 1000000000;
+    let low = strength::beta(c, to, v0) / 1000000000;
     let high = low + 1;
     let a = 81 * (s.gain - s.loss) / 32000000;
     let least = (low - target) * (low + target) / 64 * s.unit;
@@ -65,7 +65,7 @@ fn run_at(curve: Curve, c: Course, beta: u64, v: Kmh) -> Run
 
 // A curve's distance from the bounds of its speeds.
 pub fn distance(curve: Curve, c: Course, v: Kmh, v0: Kmh, b: Bounds) -> Millimetre
-    requires { ⌜ Small c × Near (v .0) (v0 .0) × Enough c (v .0) (v0 .0) × IsBounds c (v .0) (v0 .0) b ⌝ }
+    requires { ⌜ Small c × Near (v .0) (v0 .0) × Enough c (v .0) (v0 .0) × IsBounds c (v .0) (v .0) (v0 .0) b ⌝ }
     ensures { λ r. ⌜ r .0 ≡ placeOf curve c (v .0) (v0 .0) ⌝ }
 {
     let run = run_at(curve, c, b.beta, v);
@@ -92,13 +92,14 @@ fn room_of(d: Metre) -> u64
     }
 }
 
-// That the P distance is at most d, where the bounds show it. In 256 µm the room times a is no longer than a word.
-pub fn surely_fits(c: Course, v: Kmh, v0: Kmh, d: Metre) -> bool
-    requires { ⌜ Small c × Near (v .0) (v0 .0) × Enough c (v .0) (v0 .0) ⌝ }
-    ensures { λ r. ⌜ (r ≡ true → sumAt P c (v .0) (v0 .0) ≤ 81 * 10 ^ 20 * aOf c (v .0) (v0 .0) * (1000 * d .0)) ⌝ }
+// That the P distance of every speed from one to another is at most d, where the bounds show it. It is worked out once: with the
+// deceleration of the first, the weakest, and the speeds of the last. In 256 µm the room times a is no longer than a word.
+pub fn surely_fit(c: Course, from: Kmh, to: Kmh, v0: Kmh, d: Metre) -> bool
+    requires { ⌜ Small c × Near (from .0) (v0 .0) × Near (to .0) (v0 .0) × Enough c (from .0) (v0 .0) ⌝ }
+    ensures { λ r. ⌜ (r ≡ true → (v : ℕ) → v ≤ to .0 → NoWeaker c (from .0) v (v0 .0) → sumAt P c v (v0 .0) ≤ 81 * 10 ^ 20 * aOf c v (v0 .0) * (1000 * d .0)) ⌝ }
 {
-    let b = bounds_at(c, v, v0);
-    let run = run_at(Curve::P, c, b.beta, v);
+    let b = bounds_at(c, from, to, v0);
+    let run = run_at(Curve::P, c, b.beta, to);
     let room = room_of(d);
     if room < run.high {
         return false;

@@ -24,7 +24,7 @@ fn fill(curve: Curve, c: Course, v0: Kmh, n: usize, out: &mut [u32])
     let mut v = v0.0;
     let mut k: usize = 0;
     while k < n {
-        let b = quick::bounds_at(c, Kmh(v), v0);
+        let b = quick::bounds_at(c, Kmh(v), Kmh(v), v0);
         let d = quick::distance(curve, c, Kmh(v), v0, b);
         out[k] = d.0;
         v += 1;

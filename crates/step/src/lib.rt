@@ -87,7 +87,7 @@ fn distances_at(c: Course, v: Kmh, v0: Kmh) -> Distances
     requires { ⌜ Small c × Near (v .0) (v0 .0) × Enough c (v .0) (v0 .0) ⌝ }
     ensures { λ r. ⌜ r ≡ placesOf c v v0 ⌝ }
 {
-    let b = quick::bounds_at(c, v, v0);
+    let b = quick::bounds_at(c, v, v, v0);
     Distances {
         refusal: 0,
         ebi: quick::distance(Curve::Ebi, c, v, v0, b),

@@ -1,76 +1,61 @@
--- `last_fitting`: the climb from the speed reached is the whole climb.
-use borrow.Author.Tests.{le-leb, not-true, not-false}
-use mathlib.Core.Bool.{true}
-use mathlib.Core.Path.{_≡_, refl, sym, _∙_}
-use Prim.Native.Nat.{_+_, _-_, _≤_}
+-- `last_fitting`: the climb from the speed reached is the whole climb. Up to the sure speed each fits; above it the test says.
+use borrow.Author.Needs.{needs}
+use borrow.Author.Tests.{not-true, not-false}
+use mathlib.Core.Path.{sym, _∙_}
+use Prim.Native.Nat.{_-_}
 use native.Mathlib.Omega.{arith}
-use Rattle.braking.specs.Plan.{Small, Near, Enough}
-use Rattle.climb.specs.Climb.{climb}
+use Rattle.climb.proofs.Climbing.{Reached, begins, reaches-next, stops-there, ends-there}
 use Rattle.permitted.specs.Find.{fitsBy}
-use Rattle.climb.proofs.Climbing.{goes-on, stops-at, ends-at}
+use Rattle.permitted.proofs.Surely.{near}
 use Rattle.permitted.proofs.last_fitting.Statement.{statement}
 use Rattle.permitted.proofs.last_fitting.Tie as tie
 
 abbrev Inv-loop : tie.InvT-loop
-Inv-loop c v0 d end v₀ v = (v0 .0 ≤ v) × (v ≤ end) × (climb (fitsBy c (v0 .0) (d .0)) v (end - v) ≡ climb (fitsBy c (v0 .0) (d .0)) (v0 .0) (end - v0 .0))
+Inv-loop c v0 d end sure v₀ v = Reached (fitsBy c (v0 .0) (d .0)) (v0 .0) end v
 
 abbrev μ-loop : tie.MeasureT-loop
-μ-loop c v0 d end v₀ v = end - v
+μ-loop c v0 d end sure v₀ v = end - v
 
--- the next speed may be tested
-asked : (c : tie.Else1 Inv-loop μ-loop) → let a = c .before .before .args in let v = c .before .loop .v in
-    Small (a .c) × Near (v + 1) (a .v0 .0) × Enough (a .c) (v + 1) (a .v0 .0)
-asked c =
-    let s = c .before .before in
-    let i = c .before .loop .inv .0 in
-    (s .pre .0, record { high = omega (arith, c .if1 .left, s .pre .3); ahead = omega arith }, s .pre .1 _ (omega arith))
-
--- it fits, and the climb goes on from it
-further : (c : tie.Else1 Inv-loop μ-loop) → let a = c .before .before .args in let v = c .before .loop .v in
-    fitsBy (a .c) (a .v0 .0) (a .d .0) (v + 1) ≡ true → Inv-loop (a .c) (a .v0) (a .d) (a .top .0) (a .v0 .0) (v + 1)
-further c e =
-    let l = c .before in
-    let a = l .before .args in
-    let i = l .loop .inv in
-    (omega (arith, i .0), omega (arith, c .if1 .left), goes-on (fitsBy (a .c) (a .v0 .0) (a .d .0)) (l .loop .v) _ (c .if1 .left) e ∙ i .2)
+surely-fitting-requires : tie.Need-surely-fitting-requires Inv-loop μ-loop
+surely-fitting-requires c κs = c .pre
 
 loop-holds : tie.Need-loop-holds Inv-loop μ-loop
-loop-holds c = (omega arith, omega (arith, c .pre .2), refl)
+loop-holds c = begins _ _ _ (c .before .pre .ahead)
 
 add-next : tie.Need-add-next Inv-loop μ-loop
-add-next c = let s = c .before .before in omega (arith, c .if1 .left, s .pre .3)
-
-surely-fits-requires : tie.Need-surely-fits-requires Inv-loop μ-loop
-surely-fits-requires c κs = asked c
+add-next c = omega (arith, c .if1 .left, c .before .before .before .pre .high)
 
 fits-requires : tie.Need-fits-requires Inv-loop μ-loop
-fits-requires c κs = asked (c .before .before)
+fits-requires c κs =
+    let i = c .before in
+    let l = i .before in
+    let p = l .before .before .pre in
+    let h = l .loop .inv .past in
+    (p .small, near _ _ _ p _ (omega arith) (omega (arith, i .if1 .left)), p .enough _ (omega arith))
 
 loop-less : tie.Need-loop-less Inv-loop μ-loop
-loop-less c = omega (arith, c .before .before .before .before .if1 .left)
+loop-less c = omega (arith, c .before .before .before .if1 .left)
 
 loop-again : tie.Need-loop-again Inv-loop μ-loop
-loop-again c = further (c .before .before .before .before) (sym (c .before .fits2 .ensures) ∙ not-false _ (c .if3 .left))
+loop-again c =
+    let i = c .before .before .before in
+    reaches-next _ _ _ _ (i .before .loop .inv) (i .if1 .left) (sym (c .before .fits2 .ensures) ∙ not-false _ (c .if3 .left))
 
 loop-less-2 : tie.Need-loop-less-2 Inv-loop μ-loop
-loop-less-2 c = omega (arith, c .before .before .if1 .left)
+loop-less-2 c = omega (arith, c .before .if1 .left)
 
 loop-again-2 : tie.Need-loop-again-2 Inv-loop μ-loop
-unfolding fitsBy
-loop-again-2 c = further (c .before .before) (le-leb _ _ (c .before .surely-fits .ensures (not-false _ (c .if2 .left))))
+loop-again-2 c =
+    let l = c .before .before in
+    reaches-next _ _ _ _ (l .loop .inv) (c .before .if1 .left) (l .before .surely-fitting .ensures .1 .each _ (omega (arith, l .loop .inv .past)) (c .if2 .left))
 
 returns : tie.Need-returns Inv-loop μ-loop
-returns c =
-    let l = c .before in
-    let a = l .before .args in
-    ends-at (fitsBy (a .c) (a .v0 .0) (a .d .0)) (l .loop .v) _ (l .loop .inv .1) (c .if1 .taken) ∙ l .loop .inv .2
+returns c = ends-there _ _ _ _ (c .before .loop .inv) (c .if1 .taken)
 
 returns-2 : tie.Need-returns-2 Inv-loop μ-loop
 returns-2 c =
-    let e = c .before .before .before .before in
-    let l = e .before in
-    let a = l .before .args in
-    stops-at (fitsBy (a .c) (a .v0 .0) (a .d .0)) (l .loop .v) _ (e .if1 .left) (sym (c .before .fits2 .ensures) ∙ not-true _ (c .if3 .taken)) ∙ l .loop .inv .2
+    let i = c .before .before .before in
+    stops-there _ _ _ _ (i .before .loop .inv) (i .if1 .left) (sym (c .before .fits2 .ensures) ∙ not-true _ (c .if3 .taken))
 
 pub last-fitting-spec : {M : Type 1} → statement M
 last-fitting-spec =
@@ -78,9 +63,9 @@ last-fitting-spec =
     (tie.spec
     Inv-loop
     μ-loop
+    surely-fitting-requires
     loop-holds
     add-next
-    surely-fits-requires
     fits-requires
     loop-less
     loop-again

@@ -55,7 +55,7 @@ last-fitting-requires c κs =
     let s = e .before .before .before .before in
     let a = s .args in
     let o = e .before .before .course-of .ensures in
-    (o .small, enough-on (a .k) (s .pre .0) (s .pre .1) (a .train) (a .g) _ o (a .v0) (enough e), s .pre .5, s .pre .6)
+    record { small = o .small; steady = o .minus ∙ s .pre .1 .minus; enough = enough-on (a .k) (s .pre .0) (s .pre .1) (a .train) (a .g) _ o (a .v0) (enough e); ahead = s .pre .5; high = s .pre .6 }
 
 returns-3 : tie.Need-returns-3
 returns-3 c =

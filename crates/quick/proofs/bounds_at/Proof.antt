@@ -14,16 +14,16 @@ use Rattle.quick.proofs.bounds_at.Tie as tie
 a-most : (c : tie.After-at) → c .at .result .gain - c .at .result .loss ≤ aMost
 a-most c =
     let s = c .before in
-    let g : c .at .result .gain ≤ aMost = rw (c .at .ensures .1) (gain-small (s .args .c) (s .args .v .0) (s .args .v0 .0) (s .pre .0) (s .pre .1) .0) in
+    let g : c .at .result .gain ≤ aMost = rw (c .at .ensures .1) (gain-small (s .args .c) (s .args .from .0) (s .args .v0 .0) (s .pre .0) (s .pre .1) .0) in
     omega (arith, g)
 
 -- the speeds that the laws of a pair ask for
-speeds : (c : tie.Start) → let a = c .args in let b = betaOf (a .c) (a .v .0) (a .v0 .0) in (b ≤ betaMost) × ((v9 (a .v0 .0) ≤ b) × ((a .v0 .0 ≤ 330) × (sOf (a .v .0) ≤ 330)))
+speeds : (c : tie.Start) → let a = c .args in let b = betaOf (a .c) (a .to .0) (a .v0 .0) in (b ≤ betaMost) × ((v9 (a .v0 .0) ≤ b) × ((a .v0 .0 ≤ 330) × (sOf (a .from .0) ≤ 330)))
 speeds c =
     let a = c .args in
     let n = c .pre .1 in
-    let b = beta-small (a .c) (a .v .0) (a .v0 .0) (c .pre .0) n in
-    (b .1, (b .0, (le-trans (n .ahead) (n .high), s-small (a .v .0) (n .high) .0)))
+    let b = beta-small (a .c) (a .to .0) (a .v0 .0) (c .pre .0) (c .pre .2) in
+    (b .1, (b .0, (le-trans (n .ahead) (n .high), s-small (a .from .0) (n .high) .0)))
 
 known : (c : tie.After-beta) → Long (c .beta .result) (c .before .before .before .args .v0 .0) (c .before .before .at .result .unit)
 known c = let k = speeds (c .before .before .before) in rw (c .beta .ensures, c .before .before .at .ensures .0) (long _ _ _ (k .0) (k .1 .0) (k .1 .1 .0) (k .1 .1 .1))
@@ -83,10 +83,12 @@ returns c =
     let a = b .before .before in
     let s = a .before in
     let k = speeds s in
-    let l : Long (betaOf (s .args .c) (s .args .v .0) (s .args .v0 .0)) (s .args .v0 .0) (sOf (s .args .v .0)) = long _ _ _ (k .0) (k .1 .0) (k .1 .1 .0) (k .1 .1 .1) in
-    let A = gainOf (s .args .c) (s .args .v .0) (s .args .v0 .0) - lossOf (s .args .c) (s .args .v .0) (s .args .v0 .0) in
+    let v = s .args .from .0 in
+    let v0 = s .args .v0 .0 in
+    let l : Long (betaOf (s .args .c) (s .args .to .0) v0) v0 (sOf v) = long _ _ _ (k .0) (k .1 .0) (k .1 .1 .0) (k .1 .1 .1) in
+    let A = gainOf (s .args .c) v v0 - lossOf (s .args .c) v v0 in
     let d = counted A (rw (a .at .ensures .1, a .at .ensures .2) at (a-most a)) in
-    let e : 50000000000 * sOf (s .args .v .0) ≤ A = let p = s .pre .2 in omega arith in
+    let e : 50000000000 * sOf v ≤ A = let p = s .pre .3 in omega arith in
     rw (b .beta .ensures, a .at .ensures .0, a .at .ensures .1, a .at .ensures .2)
     (record {
       beta-above = omega arith;

@@ -2,25 +2,17 @@
 use borrow.Author.Needs.{needs}
 use borrow.Author.Tests.{not-true, not-false}
 use mathlib.Core.Path.{_≡_, sym, ap, _∙_}
-use mathlib.Core.Bool.{Bool, true}
-use Prim.Native.Nat.{ℕ, _+_, _-_, _≤_, _<_}
+use Prim.Native.Nat.{ℕ, _+_, _-_, min}
 use native.Mathlib.Omega.{arith}
 use Rattle.climb.specs.Climb.{climb}
 use Rattle.release.specs.Release.{stopsWithin}
-use Rattle.climb.proofs.Climbing.{goes-on, stops-at, ends-at}
+use Rattle.climb.proofs.Climbing.{Reached, begins, reaches-next, stops-there, ends-there}
 use Rattle.release.proofs.Past.{accepted}
 use Rattle.release.proofs.last_stopping.Statement.{statement}
 use Rattle.release.proofs.last_stopping.Tie as tie
 
-abbrev Reached : (ℕ → Bool) → ℕ → ℕ → Type 0
-Reached fits end v = (v ≤ end) × (climb fits v (end - v) ≡ climb fits 0 end)
-
--- where the next speed fits, it is reached
-next : (fits : ℕ → Bool) (end v : ℕ) → v < end → Reached fits end v → fits (v + 1) ≡ true → Reached fits end (v + 1)
-next fits end v h r e = (omega arith, goes-on fits v end h e ∙ r .1)
-
 abbrev Inv-loop : tie.InvT-loop
-Inv-loop k o overlap end sure v₀ v = Reached (stopsWithin k o overlap) end v
+Inv-loop k o overlap end sure v₀ v = Reached (stopsWithin k o overlap) 0 end v
 
 abbrev μ-loop : tie.MeasureT-loop
 μ-loop k o overlap end sure v₀ v = end - v
@@ -37,7 +29,7 @@ surely-stopping-requires : tie.Need-surely-stopping-requires Inv-loop μ-loop
 surely-stopping-requires c κs = let p = c .before .pre in (p .0, p .1, omega (arith, c .highest .ensures))
 
 loop-holds : tie.Need-loop-holds Inv-loop μ-loop
-loop-holds c = let a = c .before .before .args in (omega arith, ap (climb (stopsWithin (a .k) (a .o) (a .overlap)) 0) (omega arith))
+loop-holds c = begins _ _ _ (omega arith)
 
 add-next : tie.Need-add-next Inv-loop μ-loop
 add-next c = let e = c .before .before .before .highest .ensures in omega (arith, c .if1 .left)
@@ -60,10 +52,7 @@ loop-less c = omega (arith, c .before .before .before .before .if1 .left)
 loop-again : tie.Need-loop-again Inv-loop μ-loop
 loop-again c =
     let i = c .before .before .before .before in
-    let l = i .before in
-    let h = l .before .before in
-    let a = h .before .args in
-    next (stopsWithin (a .k) (a .o) (a .overlap)) (h .highest .result .0) (l .loop .v) (i .if1 .left) (l .loop .inv) (tested (c .before) ∙ not-false _ (c .if3 .left))
+    reaches-next _ _ _ _ (i .before .loop .inv) (i .if1 .left) (tested (c .before) ∙ not-false _ (c .if3 .left))
 
 loop-less-2 : tie.Need-loop-less-2 Inv-loop μ-loop
 loop-less-2 c = omega (arith, c .before .if1 .left)
@@ -71,26 +60,21 @@ loop-less-2 c = omega (arith, c .before .if1 .left)
 loop-again-2 : tie.Need-loop-again-2 Inv-loop μ-loop
 loop-again-2 c =
     let l = c .before .before in
-    let h = l .before .before in
-    let a = h .before .args in
-    next (stopsWithin (a .k) (a .o) (a .overlap)) (h .highest .result .0) (l .loop .v) (c .before .if1 .left) (l .loop .inv) (l .before .surely-stopping .ensures .1 .each _ (omega arith) (c .if2 .left))
+    reaches-next _ _ _ _ (l .loop .inv) (c .before .if1 .left) (l .before .surely-stopping .ensures .1 .each _ (omega arith) (c .if2 .left))
+
+-- the definition's end is the lower of 100 and the top speed
+whole : (c : tie.After-highest Inv-loop μ-loop) (n : ℕ) → let a = c .before .args in let f = stopsWithin (a .k) (a .o) (a .overlap) in
+    n ≡ climb f 0 (c .highest .result .0 - 0) → n ≡ climb f 0 (min 100 (a .top .0))
+whole c n e = let a = c .before .args in e ∙ ap (climb (stopsWithin (a .k) (a .o) (a .overlap)) 0) (omega (arith, c .highest .ensures))
 
 returns : tie.Need-returns Inv-loop μ-loop
-returns c =
-    let l = c .before in
-    let h = l .before .before in
-    let a = h .before .args in
-    let f = stopsWithin (a .k) (a .o) (a .overlap) in
-    ends-at f (l .loop .v) _ (l .loop .inv .0) (c .if1 .taken) ∙ l .loop .inv .1 ∙ ap (climb f 0) (h .highest .ensures)
+returns c = let l = c .before in whole (l .before .before) _ (ends-there _ _ _ _ (l .loop .inv) (c .if1 .taken))
 
 returns-2 : tie.Need-returns-2 Inv-loop μ-loop
 returns-2 c =
     let i = c .before .before .before .before in
     let l = i .before in
-    let h = l .before .before in
-    let a = h .before .args in
-    let f = stopsWithin (a .k) (a .o) (a .overlap) in
-    stops-at f (l .loop .v) _ (i .if1 .left) (tested (c .before) ∙ not-true _ (c .if3 .taken)) ∙ l .loop .inv .1 ∙ ap (climb f 0) (h .highest .ensures)
+    whole (l .before .before) _ (stops-there _ _ _ _ (l .loop .inv) (i .if1 .left) (tested (c .before) ∙ not-true _ (c .if3 .taken)))
 
 pub last-stopping-spec : {M : Type 1} → statement M
 last-stopping-spec =

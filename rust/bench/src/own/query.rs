@@ -4,6 +4,22 @@ use crate::plain::query::{answer_by, Climbs, FASTEST_CREEP};
 use crate::plain::step::{fits, Course};
 use approach::raw::{Answer, Train};
 
+/// The last speed before the first that does not fit, or the end; those up to `sure` are known to.
+#[inline(always)]
+fn climb(begin: u32, end: u32, sure: u32, fits: impl Fn(u32) -> bool) -> u32 {
+    let mut v = begin;
+    loop {
+        if v >= end {
+            break end;
+        }
+        let next = v + 1;
+        if next > sure && !fits(next) {
+            break v;
+        }
+        v = next;
+    }
+}
+
 pub(crate) struct Quick;
 
 impl Climbs for Quick {
@@ -12,45 +28,30 @@ impl Climbs for Quick {
     fn release(train: Train, tm: u32, tr: u32, gradient: i32, overlap: u32) -> u32 {
         let stops = |v| ramp::stop(train.braked_weight, gradient, v, tm, tr).distance <= overlap;
         let end = train.top_speed.min(FASTEST_CREEP);
-        let (mut sure, mut high) = (0, end);
-        while sure < high {
-            let middle = high - (high - sure) / 2;
-            if stops(middle) {
-                sure = middle;
-            } else {
-                high = middle - 1;
-            }
+        let (mut sure, mut high) = (0, end + 1);
+        while high - sure > 1 {
+            let middle = sure + (high - sure) / 2;
+            *(if stops(middle) { &mut sure } else { &mut high }) = middle;
         }
-        let mut v = 0;
-        loop {
-            if v >= end {
-                break end;
-            }
-            let next = v + 1;
-            if next > sure && !stops(next) {
-                break v;
-            }
-            v = next;
-        }
+        climb(0, end, sure, stops)
     }
 
+    /// The bounds show many speeds at once, ever fewer where the distance gets short.
     #[inline(always)]
     fn permitted(c: Course, v0: u32, top: u32, metres: u32) -> Option<u32> {
-        let millimetres = 1000 * metres;
-        if !fits(c, v0, v0, millimetres) {
+        let fits = |v| fits(c, v, v0, 1000 * metres);
+        if !fits(v0) {
             return None;
         }
-        let mut v = v0;
-        Some(loop {
-            if v >= top {
-                break top;
+        let (mut sure, mut stride) = (v0, 64);
+        while stride > 0 {
+            if stride <= top - sure && step::surely_fit(c, sure + 1, sure + stride, v0, metres) {
+                sure += stride;
+            } else {
+                stride /= 2;
             }
-            let next = v + 1;
-            if !step::surely_fits(c, next, v0, metres) && !fits(c, next, v0, millimetres) {
-                break v;
-            }
-            v = next;
-        })
+        }
+        Some(climb(v0, top, sure, fits))
     }
 }
 

@@ -11,10 +11,10 @@ struct Bounds {
 }
 
 #[inline(always)]
-fn bounds(c: Course, v: u32, v0: u32) -> Bounds {
-    let s = v.max(1) as u64;
+fn bounds(c: Course, from: u32, to: u32, v0: u32) -> Bounds {
+    let s = from.max(1) as u64;
     let target = 2_500_000 * v0 as u64;
-    let low = beta(c, v, v0) / 1_000_000_000;
+    let low = beta(c, to, v0) / 1_000_000_000;
     let high = low + 1;
     Bounds {
         beta: low,
@@ -50,19 +50,20 @@ fn distance(curve: Curve, c: Course, v: u32, v0: u32, b: &Bounds) -> u32 {
     settled(curve, c, v, b).unwrap_or_else(|| plain::distance(curve, c, v, v0))
 }
 
-/// Whether the bounds show that P is at most as many metres.
+/// Whether the bounds show that P is at most as many metres at each speed from one to another: with the first's deceleration and
+/// the last's speeds.
 #[inline(always)]
-pub(crate) fn surely_fits(c: Course, v: u32, v0: u32, metres: u32) -> bool {
-    let b = bounds(c, v, v0);
-    let (run, rest) = run(Curve::P, c, b.beta, v);
-    let room = (1_000_000 * metres.min(1_000_000) as u64).saturating_sub(run + rest);
+pub(crate) fn surely_fit(c: Course, from: u32, to: u32, v0: u32, metres: u32) -> bool {
+    let b = bounds(c, from, to, v0);
+    let (run, rest) = run(Curve::P, c, b.beta, to);
+    let room = (1_000_000 * metres.min(500_000) as u64).saturating_sub(run + rest);
     b.most / 256 < b.a * (room / 256)
 }
 
 #[inline(never)]
 pub extern "C" fn step(train: Train, v: u32, v0: u32, gradient: i32) -> Distances {
     let c = course(train, gradient);
-    let b = bounds(c, v, v0);
+    let b = bounds(c, v, v, v0);
     let at = |curve| distance(curve, c, v, v0, &b);
     Distances { refusal: 0, ebi: at(Curve::Ebi), sbi: at(Curve::Sbi), w: at(Curve::W), p: at(Curve::P) }
 }
@@ -72,6 +73,6 @@ pub extern "C" fn step(train: Train, v: u32, v0: u32, gradient: i32) -> Distance
 pub fn row(curve: Curve, train: Train, v0: u32, gradient: i32, row: &mut [u32]) {
     let c = course(train, gradient);
     for (v, place) in (v0..).zip(row) {
-        *place = distance(curve, c, v, v0, &bounds(c, v, v0));
+        *place = distance(curve, c, v, v0, &bounds(c, v, v, v0));
     }
 }

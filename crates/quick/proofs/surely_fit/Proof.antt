@@ -1,17 +1,18 @@
--- `surely_fits`: the products are a word long, and where the room is enough the distance fits.
+-- `surely_fit`: the products are a word long, and where the room is enough for the last speed, each fits.
 use mathlib.Core.Path.{_≡_}
 use mathlib.Core.Bool.{false≢true}
-use Prim.Native.Nat.{_*_, _-_, _^_, _/_, _≤_}
+use Prim.Native.Nat.{_*_, _-_, _/_, _≤_}
 use borrow.Author.Needs.{needs}
 use borrow.Author.Tests.{ltb-true}
-use native.Mathlib.Nat.{mul-le-mul, mul-comm}
+use native.Mathlib.Nat.{mul-le-mul}
 use native.Mathlib.Omega.{arith}
 use Rattle.braking.specs.Plan.{v9, sOf, betaOf}
 use Rattle.curve.specs.declared.Curve.the-variants.{P}
-use Rattle.curve.specs.Plan.{squareOf, runOf, aOf, sumAt}
+use Rattle.curve.specs.Plan.{squareOf, runOf, aOf}
 use Rattle.quick.proofs.Settled.{at-most, enough}
-use Rattle.quick.proofs.surely_fits.Statement.{statement}
-use Rattle.quick.proofs.surely_fits.Tie as tie
+use Rattle.quick.proofs.Slower.{each-fits}
+use Rattle.quick.proofs.surely_fit.Statement.{statement}
+use Rattle.quick.proofs.surely_fit.Tie as tie
 
 bounds-at-requires : tie.Need-bounds-at-requires
 bounds-at-requires c κs = search needs
@@ -33,23 +34,22 @@ mul-result c =
     omega (arith, mul-le-mul (r .before .bounds-at .ensures .a-most) h)
 
 returns-2 : tie.Need-returns-2
-unfolding sumAt
-returns-2 c = λ e.
+returns-2 c = λ e v h n.
     let m = c .before .before .before .before .before in
     let r = m .before in
     let b = r .before in
     let s = b .before in
-    let v = s .args .v .0 in
+    let w = s .args .to .0 in
     let v0 = s .args .v0 .0 in
     let i = b .bounds-at .ensures in
     let run = r .run-at .ensures in
-    let A = aOf (s .args .c) v v0 in
-    let M = runOf P (s .args .c) (betaOf (s .args .c) v v0) (v9 v) in
-    let D = squareOf (betaOf (s .args .c) v v0) (v9 v0) in
-    rw (mul-comm (81 * 10 ^ 20 * A) (1000 * s .args .d .0))
-    (at-most A M (sOf v) D _ _ _ _ (1000 * s .args .d .0) (i .a-above) (run .below _ (i .beta-below)) (i .most) (enough _ _ _ (ltb-true _ _ e)) (omega (arith, c .before .before .before .if1 .left, m .room-of .ensures .0)))
+    let A = aOf (s .args .c) (s .args .from .0) v0 in
+    let M = runOf P (s .args .c) (betaOf (s .args .c) w v0) (v9 w) in
+    let D = squareOf (betaOf (s .args .c) w v0) (v9 v0) in
+    each-fits (s .args .c) (s .args .from .0) v w v0 (1000 * s .args .d .0) h (s .pre .1) n
+    (at-most A M (sOf (s .args .from .0)) D _ _ _ _ _ (i .a-above) (run .below _ (i .beta-below)) (i .most) (enough _ _ _ (ltb-true _ _ e)) (omega (arith, c .before .before .before .if1 .left, m .room-of .ensures .0)))
 
-pub surely-fits-spec : {M : Type 1} → statement M
-surely-fits-spec =
+pub surely-fit-spec : {M : Type 1} → statement M
+surely-fit-spec =
     tie.close
     (tie.spec bounds-at-requires run-at-requires room-of-requires returns mul-result returns-2)
