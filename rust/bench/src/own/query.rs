@@ -1,6 +1,8 @@
-//! The approach query: the plain one's check and ways, and climbs that ask the exact test only where a quick one does not tell.
+//! The approach query: the plain one's check, one pass along the stretches for each way, and climbs that ask the exact test only
+//! above a speed that is sure.
 use super::{ramp, step};
-use crate::plain::query::{answer_by, Climbs, FASTEST_CREEP};
+use crate::plain::query::{answer_by, Plan, FASTEST_CREEP};
+use crate::plain::sheet::{split, Entry};
 use crate::plain::step::{fits, Course};
 use approach::raw::{Answer, Train};
 
@@ -20,9 +22,26 @@ fn climb(begin: u32, end: u32, sure: u32, fits: impl Fn(u32) -> bool) -> u32 {
     }
 }
 
-pub(crate) struct Quick;
+pub(crate) struct Own;
 
-impl Climbs for Quick {
+impl Plan for Own {
+    /// Along the stretches from the first: its own gradient while a stretch starts at or before the span, then the less of both.
+    #[inline(always)]
+    fn least(stretches: &[Entry], from: u32, to: u32) -> i32 {
+        let mut least = 0;
+        for stretch in stretches {
+            let (start, gradient) = split(stretch);
+            if start >= to {
+                break;
+            }
+            let gradient = i16::from_le_bytes(gradient).into();
+            if start <= from || gradient < least {
+                least = gradient;
+            }
+        }
+        least
+    }
+
     /// A stop is surely within the overlap where a faster one is.
     #[inline(always)]
     fn release(train: Train, tm: u32, tr: u32, gradient: i32, overlap: u32) -> u32 {
@@ -57,5 +76,5 @@ impl Climbs for Quick {
 
 #[inline(never)]
 pub fn query(train: Train, tm: u32, tr: u32, sheet: &[u8], signal: u32, head: u32) -> Answer {
-    answer_by::<Quick>(train, tm, tr, sheet, signal, head)
+    answer_by::<Own>(train, tm, tr, sheet, signal, head)
 }

@@ -1,6 +1,5 @@
 //! The ramp: one quotient for a stop under full braking, and the place in one word up to 2¹⁹ ms.
 use crate::plain::ramp::{self as plain, Plan};
-use crate::plain::step::{nominal, slope};
 use approach::raw::Stop;
 
 /// Up to here, in ms, every number of the place is one word long.
@@ -19,35 +18,24 @@ fn moment(m: &Plan) -> u64 {
     }
 }
 
-/// Without the rise time as a factor: V, the slope and the brake.
-pub(crate) struct Pace {
-    speed: u64,
-    rise: u64,
-    fall: u64,
-    power: u64,
-}
-
-fn pace(braked_weight: u32, gradient: i32, v: u32) -> Pace {
-    let (up7, down7) = slope(gradient);
-    Pace { speed: 50_000_000_000 * v as u64, rise: 9 * up7, fall: 9 * down7, power: 270 * nominal(braked_weight) }
-}
-
 #[inline(always)]
-fn place(m: &Plan, p: &Pace, t: u64) -> u32 {
+fn place(m: &Plan, t: u64) -> u32 {
     if t > WORD {
         return m.place(t);
     }
+    let unbraked = (2 * m.start + m.down * t - m.up * t) / (2 * m.tr) * t;
     let (acted, full) = m.acted(t);
     let cubes = acted * acted * acted - full * full * full;
-    let braked = p.power * (cubes / m.tr) + p.power * (cubes % m.tr) / m.tr;
-    (t * (p.speed + p.fall * t) - p.rise * t * t - braked).div_ceil(MILLIMETRE) as u32
+    let brake = m.brake / 3;
+    let braked = brake * (cubes / m.tr) + brake * (cubes % m.tr) / m.tr;
+    (unbraked - braked).div_ceil(MILLIMETRE) as u32
 }
 
 #[inline(always)]
 pub(crate) fn stop(braked_weight: u32, gradient: i32, v: u32, tm: u32, tr: u32) -> Stop {
     let m = plain::plan(braked_weight, gradient, v, tm, tr);
     let t = moment(&m);
-    Stop { refusal: 0, distance: place(&m, &pace(braked_weight, gradient, v), t) + 1, moment: t as u32 }
+    Stop { refusal: 0, distance: place(&m, t) + 1, moment: t as u32 }
 }
 
 #[inline(never)]

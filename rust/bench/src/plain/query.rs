@@ -1,5 +1,6 @@
 //! The approach query as one would write it in Rust where train and times are accepted: one pass over the sheet's bytes for its
 //! check, then two climbs over whole numbers. It stands behind a call that is not inlined, as the proved one does.
+use super::sheet::Entry;
 use super::{ramp, sheet, step};
 use approach::raw::{Answer, Train, CURVE, RELEASE};
 use std::ops::RangeInclusive;
@@ -7,8 +8,11 @@ use std::ops::RangeInclusive;
 /// The ramp's greatest speed in km/h.
 pub(crate) const FASTEST_CREEP: u32 = 100;
 
-/// How the two climbs are made, of a train whose brake is strong enough.
-pub(crate) trait Climbs {
+/// How the ways and the two climbs are worked out; of a climb the brake is strong enough.
+pub(crate) trait Plan {
+    /// The least gradient over the points `from` up to but not including `to`, of which there is one at least.
+    fn least(stretches: &[Entry], from: u32, to: u32) -> i32;
+
     /// The release speed, of an overlap in millimetres that has a length.
     fn release(train: Train, tm: u32, tr: u32, gradient: i32, overlap: u32) -> u32;
 
@@ -24,7 +28,12 @@ fn climb(speeds: RangeInclusive<u32>, fits: impl Fn(u32) -> bool) -> Option<u32>
     speeds.take_while(|&v| fits(v)).last()
 }
 
-impl Climbs for Plain {
+impl Plan for Plain {
+    #[inline(always)]
+    fn least(stretches: &[Entry], from: u32, to: u32) -> i32 {
+        sheet::least(stretches, from, to)
+    }
+
     #[inline(always)]
     fn release(train: Train, tm: u32, tr: u32, gradient: i32, overlap: u32) -> u32 {
         let fits = |v| ramp::plan(train.braked_weight, gradient, v, tm, tr).stop().distance <= overlap;
@@ -44,23 +53,23 @@ fn ceilings(permitted: u32) -> [u32; 3] {
 }
 
 #[inline(always)]
-fn answered<C: Climbs>(train: Train, tm: u32, tr: u32, sheet: &[u8], signal: u32, head: u32) -> Result<Answer, u32> {
+fn answered<P: Plan>(train: Train, tm: u32, tr: u32, sheet: &[u8], signal: u32, head: u32) -> Result<Answer, u32> {
     let (stretches, signals) = sheet::checked(sheet).ok_or(7u32)?;
     let (place, overlap) = sheet::numbered(signals, signal).ok_or(8u32)?;
     let metres = place.checked_sub(head).ok_or(9u32)?;
     let mut release = 0;
     if overlap > 0 {
-        let past = sheet::least(stretches, place, place + overlap);
+        let past = P::least(stretches, place, place + overlap);
         if !ramp::strong(train.braked_weight, past) {
             return Err(10);
         }
-        release = C::release(train, tm, tr, past, 1000 * overlap);
+        release = P::release(train, tm, tr, past, 1000 * overlap);
     }
-    let course = step::course(train, sheet::least(stretches, head, place + 1));
+    let course = step::course(train, P::least(stretches, head, place + 1));
     if !step::strong(course, release) {
         return Err(10);
     }
-    let last = C::permitted(course, release, train.top_speed, metres);
+    let last = P::permitted(course, release, train.top_speed, metres);
     let (permitted, mark) = last.map_or((release, RELEASE), |v| (v, CURVE));
     let [w, sbi, ebi] = ceilings(permitted);
     Ok(Answer { refusal: 0, release, permitted, mark, w, sbi, ebi })
@@ -68,9 +77,9 @@ fn answered<C: Climbs>(train: Train, tm: u32, tr: u32, sheet: &[u8], signal: u32
 
 /// Refusals 7 to 10 are its own; the caller sees to those of the train and the times.
 #[inline(always)]
-pub(crate) fn answer_by<C: Climbs>(train: Train, tm: u32, tr: u32, sheet: &[u8], signal: u32, head: u32) -> Answer {
+pub(crate) fn answer_by<P: Plan>(train: Train, tm: u32, tr: u32, sheet: &[u8], signal: u32, head: u32) -> Answer {
     let refused = |refusal| Answer { refusal, release: 0, permitted: 0, mark: 0, w: 0, sbi: 0, ebi: 0 };
-    answered::<C>(train, tm, tr, sheet, signal, head).unwrap_or_else(refused)
+    answered::<P>(train, tm, tr, sheet, signal, head).unwrap_or_else(refused)
 }
 
 #[inline(never)]

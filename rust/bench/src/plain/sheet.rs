@@ -8,7 +8,7 @@ const HEADER: usize = 20;
 pub(crate) type Entry = [u8; 6];
 
 #[inline(always)]
-fn split(&[a, b, c, d, e, f]: &Entry) -> (u32, [u8; 2]) {
+pub(crate) fn split(&[a, b, c, d, e, f]: &Entry) -> (u32, [u8; 2]) {
     (u32::from_le_bytes([a, b, c, d]), [e, f])
 }
 
