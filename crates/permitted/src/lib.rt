@@ -50,11 +50,11 @@ fn surely_fitting(c: Course, v0: Kmh, d: Metre, top: Kmh) -> Kmh
     requires { ⌜ Climbing c v0 top ⌝ }
     ensures { λ r. ⌜ (r .0 ≤ top .0) × Sure c (v0 .0) (d .0) (r .0) ⌝ }
 {
-    let end = top.0;
+    let last = top.0;
     let mut low = v0.0;
     let mut stride: u32 = 64;
     while stride > 0 {
-        if next_sure(c, v0, d, low, stride, end) {
+        if next_sure(c, v0, d, low, stride, last) {
             low += stride;
         } else {
             stride = stride / 2;

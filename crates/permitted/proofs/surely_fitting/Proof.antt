@@ -10,10 +10,10 @@ use Rattle.permitted.proofs.surely_fitting.Statement.{statement}
 use Rattle.permitted.proofs.surely_fitting.Tie as tie
 
 abbrev Inv-loop : tie.InvT-loop
-Inv-loop c v0 d end low₀ stride₀ low stride = (v0 .0 ≤ low) × (low ≤ end) × Sure c (v0 .0) (d .0) low
+Inv-loop c v0 d last low₀ stride₀ low stride = (v0 .0 ≤ low) × (low ≤ last) × Sure c (v0 .0) (d .0) low
 
 abbrev μ-loop : tie.MeasureT-loop
-μ-loop c v0 d end low₀ stride₀ low stride = (end - low) + stride
+μ-loop c v0 d last low₀ stride₀ low stride = (last - low) + stride
 
 loop-holds : tie.Need-loop-holds Inv-loop μ-loop
 loop-holds c = let p = c .pre in (omega arith, p .ahead, sure-of-none (c .args .c) (c .args .v0 .0) (c .args .d .0))
