@@ -1,4 +1,4 @@
--- `next_sure`: the speeds may be tested, and what the test shows is each one's fit.
+-- `next_sure`: what the test shows is each speed's fit, and the speeds may be tested.
 use mathlib.Core.Bool.{false≢true}
 use Prim.Native.Nat.{_+_, _≤_}
 use borrow.Author.Needs.{needs}
@@ -6,6 +6,15 @@ use native.Mathlib.Omega.{arith}
 use Rattle.permitted.proofs.Surely.{near, each-fits}
 use Rattle.permitted.proofs.next_sure.Statement.{statement}
 use Rattle.permitted.proofs.next_sure.Tie as tie
+
+returns-2 : tie.Need-returns-2
+returns-2 c = λ e.
+    let o = c .before in
+    let s = o .before in
+    let a = s .args in
+    let h = s .pre .1 in
+    let j : a .low + a .stride ≤ a .end = omega (arith, o .if1 .left, s .pre .2) in
+    (j, λ v k l. each-fits _ _ _ (s .pre .0) (a .low + 1) (a .low + a .stride) (a .d .0) (omega arith) j (c .surely-fit .ensures e) v (omega arith) l)
 
 sub-if1 : tie.Need-sub-if1
 sub-if1 c = search needs
@@ -27,15 +36,6 @@ surely-fit-requires c κs =
     let k = s .pre .3 in
     let near = near _ _ _ i in
     (i .small, near _ (omega arith) (omega (arith, c .if1 .left, s .pre .2)), near _ (omega arith) (omega (arith, c .if1 .left, s .pre .2)), i .enough _ (omega arith))
-
-returns-2 : tie.Need-returns-2
-returns-2 c = λ e.
-    let o = c .before in
-    let s = o .before in
-    let a = s .args in
-    let h = s .pre .1 in
-    let j : a .low + a .stride ≤ a .end = omega (arith, o .if1 .left, s .pre .2) in
-    (j, λ v k l. each-fits _ _ _ (s .pre .0) (a .low + 1) (a .low + a .stride) (a .d .0) (omega arith) j (c .surely-fit .ensures e) v (omega arith) l)
 
 pub next-sure-spec : {M : Type 1} → statement M
 next-sure-spec = tie.close (tie.spec sub-if1 returns add-first add-last surely-fit-requires returns-2)

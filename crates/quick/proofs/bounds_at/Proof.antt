@@ -1,4 +1,4 @@
--- `bounds_at`: each product is a word long, and the bounds hold.
+-- `bounds_at`: the bounds hold, and each product is a word long.
 use mathlib.Core.Path.{_≡_}
 use Prim.Native.Nat.{_*_, _-_, _≤_}
 use borrow.Author.Needs.{needs}
@@ -27,6 +27,33 @@ speeds c =
 
 known : (c : tie.After-beta) → Long (c .beta .result) (c .before .before .before .args .v0 .0) (c .before .before .at .result .unit)
 known c = let k = speeds (c .before .before .before) in rw (c .beta .ensures, c .before .before .at .ensures .0) (long _ _ _ (k .0) (k .1 .0) (k .1 .1 .0) (k .1 .1 .1))
+
+returns : tie.Need-returns
+unfolding aOf
+returns c =
+    let b = c .before .before .before in
+    let a = b .before .before in
+    let s = a .before in
+    let k = speeds s in
+    let v = s .args .from .0 in
+    let v0 = s .args .v0 .0 in
+    let l : Long (betaOf (s .args .c) (s .args .to .0) v0) v0 (sOf v) = long _ _ _ (k .0) (k .1 .0) (k .1 .1 .0) (k .1 .1 .1) in
+    let A = gainOf (s .args .c) v v0 - lossOf (s .args .c) v v0 in
+    let d = counted A (rw (a .at .ensures .1, a .at .ensures .2) at (a-most a)) in
+    let e : 50000000000 * sOf v ≤ A = let p = s .pre .3 in omega arith in
+    rw (b .beta .ensures, a .at .ensures .0, a .at .ensures .1, a .at .ensures .2)
+    (record {
+      beta-above = omega arith;
+      beta-below = omega arith;
+      a-above = d .1 .0;
+      a-below = d .1 .1;
+      least = square-least _ _ _ (k .0) (k .1 .0) (k .1 .1 .0) (k .1 .1 .1);
+      most = square-most _ _ _ (k .0) (k .1 .0) (k .1 .1 .0) (k .1 .1 .1);
+      beta-most = l .beta-most;
+      a-most = d .0;
+      least-most = l .least-most;
+      quotient-most = quotient-most _ _ _ (k .0) (k .1 .0) (k .1 .1 .0) (k .1 .1 .1) _ _ e (d .1 .1);
+    })
 
 at-requires : tie.Need-at-requires
 at-requires c κs = search needs
@@ -75,33 +102,6 @@ add-most-2 c = omega (arith, known (c .before .before) .above-most)
 
 mul-most-2 : tie.Need-mul-most-2
 mul-most-2 c = omega (arith, known (c .before .before .before) .most-most)
-
-returns : tie.Need-returns
-unfolding aOf
-returns c =
-    let b = c .before .before .before in
-    let a = b .before .before in
-    let s = a .before in
-    let k = speeds s in
-    let v = s .args .from .0 in
-    let v0 = s .args .v0 .0 in
-    let l : Long (betaOf (s .args .c) (s .args .to .0) v0) v0 (sOf v) = long _ _ _ (k .0) (k .1 .0) (k .1 .1 .0) (k .1 .1 .1) in
-    let A = gainOf (s .args .c) v v0 - lossOf (s .args .c) v v0 in
-    let d = counted A (rw (a .at .ensures .1, a .at .ensures .2) at (a-most a)) in
-    let e : 50000000000 * sOf v ≤ A = let p = s .pre .3 in omega arith in
-    rw (b .beta .ensures, a .at .ensures .0, a .at .ensures .1, a .at .ensures .2)
-    (record {
-      beta-above = omega arith;
-      beta-below = omega arith;
-      a-above = d .1 .0;
-      a-below = d .1 .1;
-      least = square-least _ _ _ (k .0) (k .1 .0) (k .1 .1 .0) (k .1 .1 .1);
-      most = square-most _ _ _ (k .0) (k .1 .0) (k .1 .1 .0) (k .1 .1 .1);
-      beta-most = l .beta-most;
-      a-most = d .0;
-      least-most = l .least-most;
-      quotient-most = quotient-most _ _ _ (k .0) (k .1 .0) (k .1 .1 .0) (k .1 .1 .1) _ _ e (d .1 .1);
-    })
 
 pub bounds-at-spec : {M : Type 1} → statement M
 bounds-at-spec =

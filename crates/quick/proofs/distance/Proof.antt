@@ -16,6 +16,25 @@ use Rattle.quick.proofs.distance.Tie as tie
 part : (c : tie.Start) → let b = c .args .b in (b .least / (b .a + 1) * (b .a + 1) ≤ b .least) × (b .least / (b .a + 1) ≤ 218638440774)
 part c = quotient _ _ (c .pre .3 .quotient-most)
 
+returns : tie.Need-returns
+unfolding placeOf sumAt aOf
+returns c =
+    let f = c .before .before .before .before in
+    let r = f .before .before .before .before .before in
+    let s = r .before in
+    let a = s .args in
+    let i = s .pre .3 in
+    let run = r .run-at .ensures in
+    let v = a .v .0 in
+    let v0 = a .v0 .0 in
+    let A = aOf (a .c) v v0 in
+    let M = runOf (a .curve) (a .c) (betaOf (a .c) v v0) (v9 v) in
+    let D = squareOf (betaOf (a .c) v v0) (v9 v0) in
+    let p = s-small v (s .pre .1 .high) .1 .1 in
+    settled A M (sOf v) D (r .run-at .result .low + a .b .least / (a .b .a + 1)) _ (let e = s .pre .2 in omega arith)
+    (at-least A M (sOf v) D _ _ _ _ (i .a-below) (run .above _ (i .beta-above)) (i .least) (part s .0)) (omega arith)
+    (at-most A M (sOf v) D _ _ _ _ _ (i .a-above) (run .below _ (i .beta-below)) (i .most) (c .if2 .taken) (omega (arith, f .if1 .taken)))
+
 run-at-requires : tie.Need-run-at-requires
 run-at-requires c κs = (c .pre .0, c .pre .3 .beta-most, c .pre .1 .high)
 
@@ -45,25 +64,6 @@ cast-mm : tie.Need-cast-mm
 cast-mm c =
     let r = c .before .before .before .before .before .before .before .before .before in
     omega (arith, part (r .before) .1, r .run-at .ensures .low-high, r .run-at .ensures .high-most)
-
-returns : tie.Need-returns
-unfolding placeOf sumAt aOf
-returns c =
-    let f = c .before .before .before .before in
-    let r = f .before .before .before .before .before in
-    let s = r .before in
-    let a = s .args in
-    let i = s .pre .3 in
-    let run = r .run-at .ensures in
-    let v = a .v .0 in
-    let v0 = a .v0 .0 in
-    let A = aOf (a .c) v v0 in
-    let M = runOf (a .curve) (a .c) (betaOf (a .c) v v0) (v9 v) in
-    let D = squareOf (betaOf (a .c) v v0) (v9 v0) in
-    let p = s-small v (s .pre .1 .high) .1 .1 in
-    settled A M (sOf v) D (r .run-at .result .low + a .b .least / (a .b .a + 1)) _ (let e = s .pre .2 in omega arith)
-    (at-least A M (sOf v) D _ _ _ _ (i .a-below) (run .above _ (i .beta-above)) (i .least) (part s .0)) (omega arith)
-    (at-most A M (sOf v) D _ _ _ _ _ (i .a-above) (run .below _ (i .beta-below)) (i .most) (c .if2 .taken) (omega (arith, f .if1 .taken)))
 
 terms-at-requires : tie.Need-terms-at-requires
 terms-at-requires c κs = search needs

@@ -1,4 +1,4 @@
--- `run_at`: each product is a word long, and the bounds hold.
+-- `run_at`: the bounds hold, and each product is a word long.
 use borrow.Author.Needs.{needs}
 use native.Mathlib.Omega.{arith}
 use Rattle.quick.proofs.Steady.{Long, long, run-above, run-below}
@@ -7,6 +7,19 @@ use Rattle.quick.proofs.run_at.Tie as tie
 
 known : (c : tie.Start) → Long (c .args .curve) (c .args .c) (c .args .beta) (c .args .v .0)
 known c = long _ _ _ _ (c .pre .0) (c .pre .1) (c .pre .2)
+
+returns : tie.Need-returns
+returns c =
+    let a = c .before .before .before .before .before in
+    let s = a .before in
+    let k = known s in
+    rw (a .ahead-of .ensures .0, a .ahead-of .ensures .1)
+    (record {
+      above = run-above (s .args .curve) (s .args .c) (s .args .beta) (s .args .v .0);
+      below = run-below (s .args .curve) (s .args .c) (s .args .beta) (s .args .v .0);
+      low-high = omega arith;
+      high-most = omega (arith, k .run-most, k .warning-most, k .steady-most);
+    })
 
 ahead-of-requires : tie.Need-ahead-of-requires
 ahead-of-requires c κs = search needs
@@ -43,19 +56,6 @@ add-high-2 : tie.Need-add-high-2
 add-high-2 c =
     let a = c .before .before .before .before .before in
     rw (a .ahead-of .ensures .0, a .ahead-of .ensures .1) (let k = known (a .before) in omega (arith, k .run-most, k .warning-most, k .steady-most))
-
-returns : tie.Need-returns
-returns c =
-    let a = c .before .before .before .before .before in
-    let s = a .before in
-    let k = known s in
-    rw (a .ahead-of .ensures .0, a .ahead-of .ensures .1)
-    (record {
-      above = run-above (s .args .curve) (s .args .c) (s .args .beta) (s .args .v .0);
-      below = run-below (s .args .curve) (s .args .c) (s .args .beta) (s .args .v .0);
-      low-high = omega arith;
-      high-most = omega (arith, k .run-most, k .warning-most, k .steady-most);
-    })
 
 pub run-at-spec : {M : Type 1} → statement M
 run-at-spec =

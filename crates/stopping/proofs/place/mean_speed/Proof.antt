@@ -1,4 +1,4 @@
--- `mean_speed`: the sums fit, and 2 tr divides them.
+-- `mean_speed`: 2 tr divides the sum, and the sums fit.
 use borrow.Author.Needs.{needs}
 use native.Mathlib.Omega.{arith}
 use Rattle.stopping.proofs.Bounds.{Tested, tested}
@@ -8,6 +8,9 @@ use Rattle.stopping.proofs.place.mean_speed.Tie as tie
 
 fit : (c : tie.Start) → Tested (c .args .m) (c .args .t) (c .pre .0) (c .pre .1)
 fit c = tested _ _ (c .pre .0) (c .pre .1)
+
+returns : tie.Need-returns
+returns c = let s = c .before .before .before .before in mean-is _ _ (s .pre .0) (s .pre .2)
 
 mul-result : tie.Need-mul-result
 mul-result c = omega (arith, fit (c .before) .start)
@@ -29,9 +32,6 @@ mul-result-4 c = search needs
 
 div-result : tie.Need-div-result
 div-result c = search needs
-
-returns : tie.Need-returns
-returns c = let s = c .before .before .before .before in mean-is _ _ (s .pre .0) (s .pre .2)
 
 pub mean-speed-spec : {M : Type 1} → statement M
 mean-speed-spec =

@@ -1,9 +1,12 @@
--- `product_over`: both parts are a word long, and their sum is the quotient lowered.
+-- `product_over`: the two parts make the quotient lowered, and each is a word long.
 use borrow.Author.Needs.{needs}
 use native.Mathlib.Omega.{arith}
 use Rattle.stopping.proofs.Word.{share-below, share-above, share-fits, rest-fits}
 use Rattle.stopping.proofs.place.product_over.Statement.{statement}
 use Rattle.stopping.proofs.place.product_over.Tie as tie
+
+returns : tie.Need-returns
+returns c = (share-below _ _ _ (c .pre .1), share-above _ _ _ (c .pre .1))
 
 div-result : tie.Need-div-result
 div-result c = search needs
@@ -22,9 +25,6 @@ div-result-2 c = search needs
 
 add-result : tie.Need-add-result
 add-result c = omega (arith, share-fits _ (c .args .x) _ (c .pre .1) (c .pre .3))
-
-returns : tie.Need-returns
-returns c = (share-below _ _ _ (c .pre .1), share-above _ _ _ (c .pre .1))
 
 pub product-over-spec : {M : Type 1} → statement M
 product-over-spec =

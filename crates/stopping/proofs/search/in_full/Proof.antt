@@ -1,4 +1,4 @@
--- `in_full`: the sums fit a word, and their quotient is the moment.
+-- `in_full`: the quotient is the moment, and the sums fit a word.
 use borrow.Author.Needs.{needs}
 use native.Mathlib.Omega.{arith}
 use Rattle.stopping.proofs.Bounds.{Evenly, even}
@@ -8,6 +8,9 @@ use Rattle.stopping.proofs.search.in_full.Tie as tie
 
 fit : (c : tie.Start) → Evenly (c .args .m)
 fit c = even _ (c .pre .0)
+
+returns : tie.Need-returns
+returns c = let s = c .before .before .before .before .before .before .before .before in rolling.in-full (s .args .m) (s .pre .0) (s .pre .1) (s .pre .2)
 
 mul-speed : tie.Need-mul-speed
 mul-speed c = omega (arith, fit (c .before))
@@ -38,9 +41,6 @@ sub-slowing c = search needs
 
 div-result : tie.Need-div-result
 div-result c = search needs
-
-returns : tie.Need-returns
-returns c = let s = c .before .before .before .before .before .before .before .before in rolling.in-full (s .args .m) (s .pre .0) (s .pre .1) (s .pre .2)
 
 pub in-full-spec : {M : Type 1} → statement M
 in-full-spec =
