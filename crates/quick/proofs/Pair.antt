@@ -3,7 +3,7 @@ use mathlib.Core.Path.{refl}
 use mathlib.Core.List.{[], _∷_}
 use Prim.Native.Nat.{ℕ, _+_, _*_, _-_, _^_, _/_, _≤_}
 use native.Mathlib.Omega.{arith}
-use native.Mathlib.Nat.{le-refl, mul-le-mul}
+use native.Mathlib.Nat.{le-refl, le-trans, mul-le-mul, div-mul-le-self, div-le-of-le-mul}
 use Rattle.exact.proofs.Polynomial.{num, _⊗_}
 use Rattle.exact.proofs.Certificate.{x0, x1, x2, x3, x4, x5, done, times, cert}
 use Rattle.braking.specs.Plan.{v9, aMost, betaMost}
@@ -64,7 +64,7 @@ module _ (b v0 s : ℕ) (hb : b ≤ betaMost) (ahead : v9 v0 ≤ b) (slow : v0 �
         most-most = mul-le-mul {n₂ = 27671427660436887} {m₂ = 330} (omega arith) hs;
       }
 
-  pub square-least : below b v0 / 64 * s * (64 * 10 ^ 18) ≤ s * squareOf b (v9 v0)
+  square-least : below b v0 / 64 * s * (64 * 10 ^ 18) ≤ s * squareOf b (v9 v0)
   unfolding v9 squareOf
   square-least =
       let t = long .ahead in
@@ -76,11 +76,26 @@ module _ (b v0 s : ℕ) (hb : b ≤ betaMost) (ahead : v9 v0 ≤ b) (slow : v0 �
       let t = long .ahead in
       high-square (b - v0 * (25 * 10 ^ 14)) (b + v0 * (25 * 10 ^ 14)) (low b v0 + 1 - target b v0) (low b v0 + 1 + target b v0) (above b v0 / 64 + 1) s (omega arith) (omega arith) (omega arith)
 
-  -- a deceleration of 0.05 m/s² or more leaves a quotient of 32 bits in mm
-  pub quotient-most : (A a : ℕ) → 50000000000 * s ≤ A → 81 * A ≤ (a + 1) * 32000000 → below b v0 / 64 * s ≤ 218638440774 * (a + 1)
-  quotient-most A a e h =
-      let j : below b v0 / 64 * s ≤ 27671427660436887 * s = mul-le-mul {n₂ = 27671427660436887} {m₂ = s} (omega (arith, long .below-most)) (le-refl s) in
-      omega (arith, j, e, h)
+  -- over the deceleration, which is 0.05 m/s² or more
+  module _ (A a : ℕ) (e : 50000000000 * s ≤ A) (h : 81 * A ≤ (a + 1) * 32000000) where
+    abbrev part : ℕ
+    part = below b v0 / 64 * s / (a + 1)
+
+    part-less : part * (a + 1) ≤ below b v0 / 64 * s
+    part-less = div-mul-le-self (below b v0 / 64 * s) (a + 1)
+
+    pub part-below : part * (a + 1) * (64 * 10 ^ 18) ≤ s * squareOf b (v9 v0)
+    part-below = le-trans (mul-le-mul part-less (le-refl (64 * 10 ^ 18))) square-least
+
+    pub part-fits : part * (a + 1) ≤ 9131571127944172710
+    part-fits = le-trans part-less (long .least-most)
+
+    -- it has 32 bits in mm
+    pub part-most : part ≤ 218638440774
+    part-most =
+        let j : below b v0 / 64 * s ≤ 27671427660436887 * s = mul-le-mul {n₂ = 27671427660436887} {m₂ = s} (omega (arith, long .below-most)) (le-refl s) in
+        let i : below b v0 / 64 * s ≤ (a + 1) * 218638440774 = omega (arith, j, e, h) in
+        div-le-of-le-mul (a + 1) i
 
 -- the deceleration, counted in 32·10⁶ / 81
 pub counted : (A : ℕ) → A ≤ aMost → (81 * A / 32000000 ≤ 6755606550) × ((81 * A / 32000000 * 32000000 ≤ 81 * A) × (81 * A ≤ (81 * A / 32000000 + 1) * 32000000))

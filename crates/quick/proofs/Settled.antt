@@ -3,7 +3,7 @@ use mathlib.Core.Path.{_≡_, refl}
 use mathlib.Core.List.{[], _∷_}
 use Prim.Native.Nat.{ℕ, _+_, _*_, _-_, _^_, _/_, _≤_, _<_}
 use native.Mathlib.Omega.{arith}
-use native.Mathlib.Nat.{mul-pos, le-antisymm, le-of-mul-le-mul-right, le-trans, div-mul-le-self, div-lt-iff-lt-mul}
+use native.Mathlib.Nat.{mul-pos, le-antisymm, le-of-mul-le-mul-right, le-trans}
 use lib.Dec.{lit<}
 use Rattle.exact.specs.Fraction.{_over_, raised}
 use Rattle.exact.proofs.Polynomial.{num, _⊕_, _⊗_}
@@ -19,14 +19,12 @@ module _ (A M s D : ℕ) where
   scale = 81 * 10 ^ 20 * A
 
   -- from below, in µm
-  pub at-least : (a low least q : ℕ) → 81 * A ≤ (a + 1) * 32000000 → low * (9 * 10 ^ 17) ≤ M → least * (64 * 10 ^ 18) ≤ s * D → q * (a + 1) ≤ least → (low + q) * scale ≤ 1000 * sum
-  at-least a low least q ha hm hs hq =
-      cert (A ∷ M ∷ s ∷ D ∷ a ∷ low ∷ least ∷ q ∷ [])
+  pub at-least : (a low part : ℕ) → 81 * A ≤ (a + 1) * 32000000 → low * (9 * 10 ^ 17) ≤ M → part * (a + 1) * (64 * 10 ^ 18) ≤ s * D → (low + part) * scale ≤ 1000 * sum
+  at-least a low part ha hm hp =
+      cert (A ∷ M ∷ s ∷ D ∷ a ∷ low ∷ part ∷ [])
       (times (num 9000 ⊗ x0) (x5 ⊗ num (9 * 10 ^ 17)) x1 hm
-      (times (num (10 ^ 20) ⊗ x7) (num 81 ⊗ x0) ((x4 ⊕ num 1) ⊗ num 32000000) ha
-      (times (num (32 * 10 ^ 26)) (x7 ⊗ (x4 ⊕ num 1)) x6 hq
-      (times (num (5 * 10 ^ 7)) (x6 ⊗ num (64 * 10 ^ 18)) (x2 ⊗ x3) hs done))))
-      ((x5 ⊕ x7) ⊗ (num (81 * 10 ^ 20) ⊗ x0)) (num 1000 ⊗ (num 9 ⊗ x0 ⊗ x1 ⊕ num 50000 ⊗ x2 ⊗ x3)) refl
+      (times (num (10 ^ 20) ⊗ x6) (num 81 ⊗ x0) ((x4 ⊕ num 1) ⊗ num 32000000) ha (times (num (5 * 10 ^ 7)) (x6 ⊗ (x4 ⊕ num 1) ⊗ num (64 * 10 ^ 18)) (x2 ⊗ x3) hp done)))
+      ((x5 ⊕ x6) ⊗ (num (81 * 10 ^ 20) ⊗ x0)) (num 1000 ⊗ (num 9 ⊗ x0 ⊗ x1 ⊕ num 50000 ⊗ x2 ⊗ x3)) refl
 
   -- and from above: what n mm leave beside the run is room for the braking part
   pub at-most : (a high most room n : ℕ) → a * 32000000 ≤ 81 * A → M ≤ high * (9 * 10 ^ 17) → s * D ≤ most * (64 * 10 ^ 18) → most ≤ a * room → high + room ≤ 1000 * n → sum ≤ n * scale
@@ -53,19 +51,11 @@ module _ (A M s D : ℕ) where
       thousand : (x r y : ℕ) → y ≤ r * x → um * x ≤ 1000 * y → um * x ≤ 1000 * r * x
       thousand x r y h k = le-trans k (cert (x ∷ r ∷ y ∷ []) (times (num 1000) x2 (x1 ⊗ x0) h done) (num 1000 ⊗ x2) (num 1000 ⊗ x1 ⊗ x0) refl)
 
--- the quotient of the least by a + 1
-pub quotient : (least a : ℕ) → least ≤ 218638440774 * (a + 1) → (least / (a + 1) * (a + 1) ≤ least) × (least / (a + 1) ≤ 218638440774)
-quotient least a h =
-    let p : 0 < a + 1 = omega arith in
-    let i : least / (a + 1) < 218638440775 = div-lt-iff-lt-mul p .1 (omega arith) in
-    (div-mul-le-self least (a + 1), omega arith)
-
 -- what n mm leave beside the run is no longer than a word in what a counts
-pub room-fits : (a q low high least : ℕ) → low ≤ high → q * (a + 1) ≤ least → a ≤ 6755606550 → least ≤ 9131571127944172710 → a * (1000 * ((low + q + 999) / 1000) - high) ≤ 9131577876795116160
-room-fits a q low high least h k i j =
-    let room = 1000 * ((low + q + 999) / 1000) - high in
-    let e : a * room ≤ least + 999 * a =
-    cert (a ∷ q ∷ room ∷ least ∷ []) (times x0 x2 (x1 ⊕ num 999) (omega arith) (times (num 1) (x1 ⊗ (x0 ⊕ num 1)) x3 k done)) (x0 ⊗ x2) (x3 ⊕ num 999 ⊗ x0) refl in
+pub room-fits : (a part low high : ℕ) → low ≤ high → part * (a + 1) ≤ 9131571127944172710 → a ≤ 6755606550 → a * (1000 * ((low + part + 999) / 1000) - high) ≤ 9131577876795116160
+room-fits a part low high h k i =
+    let room = 1000 * ((low + part + 999) / 1000) - high in
+    let e : a * room ≤ part * (a + 1) + 999 * a = cert (a ∷ part ∷ room ∷ []) (times x0 x2 (x1 ⊕ num 999) (omega arith) done) (x0 ⊗ x2) (x1 ⊗ (x0 ⊕ num 1) ⊕ num 999 ⊗ x0) refl in
     omega (arith, e)
 
 -- in 256 µm the room is enough

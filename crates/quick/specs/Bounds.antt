@@ -13,13 +13,13 @@ pub record IsBounds (c : Course) (v w v0 : ℕ) (r : Bounds) : Type 0 where
   pub beta-below : betaOf c w v0 ≤ (r .beta + 1) * 10 ^ 9
   pub a-above : r .a * 32000000 ≤ 81 * aOf c v v0
   pub a-below : 81 * aOf c v v0 ≤ (r .a + 1) * 32000000
-  pub least : r .least * (64 * 10 ^ 18) ≤ sOf v * squareOf (betaOf c w v0) (v9 v0)
+  pub part : r .part * (r .a + 1) * (64 * 10 ^ 18) ≤ sOf v * squareOf (betaOf c w v0) (v9 v0)
   pub most : sOf v * squareOf (betaOf c w v0) (v9 v0) ≤ r .most * (64 * 10 ^ 18)
-  -- how large they are; the quotient has 32 bits in mm
+  -- how large they are; the part has 32 bits in mm
   pub beta-most : r .beta ≤ 980743560
   pub a-most : r .a ≤ 6755606550
-  pub least-most : r .least ≤ 9131571127944172710
-  pub quotient-most : r .least ≤ 218638440774 * (r .a + 1)
+  pub part-most : r .part ≤ 218638440774
+  pub part-fits : r .part * (r .a + 1) ≤ 9131571127944172710
 
 pub record IsRun (k : Curve) (c : Course) (beta v : ℕ) (r : Run) : Type 0 where
   pub above : (b : ℕ) → beta * 10 ^ 9 ≤ b → r .low * (9 * 10 ^ 17) ≤ runOf k c b (v9 v)

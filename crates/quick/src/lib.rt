@@ -14,11 +14,11 @@ use train::Kmh;
 use train::Metre;
 use train::Millimetre;
 
-// For every curve: Vβ in m/s / (9·10⁶), lowered; the braking part in µm is from least / (a + 1) to most / a.
+// For every curve: Vβ in m/s / (9·10⁶), lowered; the braking part in µm is at least `part` and at most `most` over `a`.
 pub struct Bounds {
     pub beta: u64,
     pub a: u64,
-    pub least: u64,
+    pub part: u64,
     pub most: u64,
 }
 
@@ -38,12 +38,12 @@ pub fn bounds_at(c: Course, from: Kmh, to: Kmh, v0: Kmh) -> Bounds
     let low = strength::beta(c, to, v0) / 1000000000;
     let high = low + 1;
     let a = 81 * (s.gain - s.loss) / 32000000;
-    let least = (low - target) * (low + target) / 64 * s.unit;
+    let part = (low - target) * (low + target) / 64 * s.unit / (a + 1);
     let most = ((high - target) * (high + target) / 64 + 1) * s.unit;
     Bounds {
         beta: low,
         a: a,
-        least: least,
+        part: part,
         most: most,
     }
 }
@@ -69,7 +69,7 @@ pub fn distance(curve: Curve, c: Course, v: Kmh, v0: Kmh, b: Bounds) -> Millimet
     ensures { λ r. ⌜ r .0 ≡ placeOf curve c (v .0) (v0 .0) ⌝ }
 {
     let run = run_at(curve, c, b.beta, v);
-    let n = (run.low + b.least / (b.a + 1) + 999) / 1000;
+    let n = (run.low + b.part + 999) / 1000;
     let end = 1000 * n;
     if run.high <= end {
         if b.most <= b.a * (end - run.high) {

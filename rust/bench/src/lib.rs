@@ -1,4 +1,4 @@
-//! What the benchmark compares: a peer of the library in Rust, and the proved calls on wide numbers.
+//! What the benchmark compares: two peers of the library in Rust, and the proved calls on wide numbers.
 pub mod own;
 pub mod plain;
 pub mod wide_calls;

@@ -1,7 +1,8 @@
-//! The peer, with which the library's times are compared, against the reference: it must not be fast by being wrong.
+//! The peers, with which the library's times are compared, against the reference: they must not be fast by being wrong.
 use approach::raw::{Answer, Distances, Signal, Stop, CURVES};
 use approach::Kmh;
-use bench::plain::{query, ramp, sheet, step};
+use bench::plain::sheet;
+use bench::{own, plain};
 use inputs::{on_paper, Random};
 use reference::step::Curve;
 
@@ -14,7 +15,9 @@ fn distances() {
         let v0 = random.below(u64::from(v) + 1) as u32;
         let Ok([ebi, sbi, w, p]) = reference::step::step(on_paper(train), v, v0, gradient) else { continue };
         let distances = Distances { refusal: 0, ebi, sbi, w, p };
-        assert_eq!(step::step(train.into(), v, v0, gradient), distances, "{train:?}, V {v}, V0 {v0}, i {gradient}");
+        for step in [plain::step::step, own::step::step] {
+            assert_eq!(step(train.into(), v, v0, gradient), distances, "{train:?}, V {v}, V0 {v0}, i {gradient}");
+        }
         accepted += 1;
     }
     assert!(accepted > 30_000, "{accepted}");
@@ -28,9 +31,11 @@ fn rows() {
         let (train, gradient, v0) = (random.train(), random.gradient(), random.below(100) as u32);
         let (curve, on_curve) = [(Curve::Ebi, CURVES[0]), (Curve::P, CURVES[3])][round % 2];
         let Ok(expected) = reference::step::row(curve, on_paper(train), v0, gradient, 331) else { continue };
-        let mut row = vec![0; expected.len()];
-        step::row(on_curve, train.into(), v0, gradient, &mut row);
-        assert_eq!(row, expected, "{curve:?}, {train:?}, V0 {v0}, i {gradient}");
+        for fill in [plain::step::row, own::step::row] {
+            let mut row = vec![0; expected.len()];
+            fill(on_curve, train.into(), v0, gradient, &mut row);
+            assert_eq!(row, expected, "{curve:?}, {train:?}, V0 {v0}, i {gradient}");
+        }
         accepted += 1;
     }
     assert!(accepted > 200, "{accepted}");
@@ -45,7 +50,9 @@ fn ramp_answers() {
         let (v, tm, tr) = (random.near(1, 100), random.near(0, 2000), random.near(1, 3000));
         let Ok(stop) = reference::ramp::ramp(weight, gradient, v, tm, tr) else { continue };
         let expected = Stop { refusal: 0, distance: stop.distance, moment: stop.moment };
-        assert_eq!(ramp::ramp(weight, gradient, v, tm, tr), expected, "BW {weight}, i {gradient}, V {v}, {tm}, {tr}");
+        for ramp in [plain::ramp::ramp, own::ramp::ramp] {
+            assert_eq!(ramp(weight, gradient, v, tm, tr), expected, "BW {weight}, i {gradient}, V {v}, {tm}, {tr}");
+        }
         accepted += 1;
     }
     assert!(accepted > 15_000, "{accepted}");
@@ -78,7 +85,7 @@ fn sheets() {
     assert!([0, 7, 8].iter().all(|&refusal| seen[refusal] > 500), "{seen:?}");
 }
 
-/// Train and times are accepted: the rest is the peer's to judge.
+/// Train and times are accepted: the rest is the peers' to judge.
 #[test]
 fn queries() {
     let mut random = Random(94);
@@ -97,8 +104,10 @@ fn queries() {
             Err(1..=6) => continue,
             Err(refusal) => Answer { refusal, release: 0, permitted: 0, mark: 0, w: 0, sbi: 0, ebi: 0 },
         };
-        let answer = query::query(train.into(), tm, tr, &sheet, signal, head);
-        assert_eq!(answer, expected, "{train:?}, TM {tm}, TR {tr}, {line:?}, signal {signal}, head {head}");
+        for query in [plain::query::query, own::query::query] {
+            let answer = query(train.into(), tm, tr, &sheet, signal, head);
+            assert_eq!(answer, expected, "{train:?}, TM {tm}, TR {tr}, {line:?}, signal {signal}, head {head}");
+        }
         seen[expected.refusal as usize] += 1;
     }
     assert!([0, 8, 9, 10].iter().all(|&refusal| seen[refusal] > 50), "{seen:?}");

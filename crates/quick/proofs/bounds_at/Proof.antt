@@ -7,7 +7,7 @@ use native.Mathlib.Omega.{arith}
 use Rattle.braking.specs.Plan.{v9, sOf, betaOf, gainOf, lossOf, aMost, betaMost}
 use Rattle.braking.proofs.Bounds.{s-small, gain-small, beta-small}
 use Rattle.curve.specs.Plan.{aOf}
-use Rattle.quick.proofs.Pair.{Long, long, square-least, square-most, quotient-most, counted}
+use Rattle.quick.proofs.Pair.{Long, long, square-most, part-below, part-most, part-fits, counted}
 use Rattle.quick.proofs.bounds_at.Statement.{statement}
 use Rattle.quick.proofs.bounds_at.Tie as tie
 
@@ -47,12 +47,12 @@ returns c =
       beta-below = omega arith;
       a-above = d .1 .0;
       a-below = d .1 .1;
-      least = square-least _ _ _ (k .0) (k .1 .0) (k .1 .1 .0) (k .1 .1 .1);
+      part = part-below _ _ _ (k .0) (k .1 .0) (k .1 .1 .0) (k .1 .1 .1) A _ e (d .1 .1);
       most = square-most _ _ _ (k .0) (k .1 .0) (k .1 .1 .0) (k .1 .1 .1);
       beta-most = l .beta-most;
       a-most = d .0;
-      least-most = l .least-most;
-      quotient-most = quotient-most _ _ _ (k .0) (k .1 .0) (k .1 .1 .0) (k .1 .1 .1) _ _ e (d .1 .1);
+      part-most = part-most _ _ _ (k .0) (k .1 .0) (k .1 .1 .0) (k .1 .1 .1) A _ e (d .1 .1);
+      part-fits = part-fits _ _ _ (k .0) (k .1 .0) (k .1 .1 .0) (k .1 .1 .1) A _ e (d .1 .1);
     })
 
 at-requires : tie.Need-at-requires
@@ -76,17 +76,23 @@ sub-a c = search needs
 mul-a : tie.Need-mul-a
 mul-a c = omega (arith, a-most (c .before .before .before))
 
-sub-least : tie.Need-sub-least
-sub-least c = known (c .before) .ahead
+sub-part : tie.Need-sub-part
+sub-part c = known (c .before) .ahead
 
-add-least : tie.Need-add-least
-add-least c = search needs
+add-part : tie.Need-add-part
+add-part c = search needs
 
-mul-least : tie.Need-mul-least
-mul-least c = omega (arith, known (c .before) .below-most)
+mul-part : tie.Need-mul-part
+mul-part c = omega (arith, known (c .before) .below-most)
 
-mul-least-2 : tie.Need-mul-least-2
-mul-least-2 c = omega (arith, known (c .before .before) .least-most)
+mul-part-2 : tie.Need-mul-part-2
+mul-part-2 c = omega (arith, known (c .before .before) .least-most)
+
+add-part-2 : tie.Need-add-part-2
+add-part-2 c = omega (arith, a-most (c .before .before .before .before))
+
+div-part : tie.Need-div-part
+div-part c = search needs
 
 sub-most : tie.Need-sub-most
 sub-most c = omega (arith, known (c .before .before) .ahead)
@@ -114,10 +120,12 @@ bounds-at-spec =
     add-high
     sub-a
     mul-a
-    sub-least
-    add-least
-    mul-least
-    mul-least-2
+    sub-part
+    add-part
+    mul-part
+    mul-part-2
+    add-part-2
+    div-part
     sub-most
     add-most
     mul-most

@@ -16,6 +16,7 @@ pub fn measure() {
     let mut random = Random(31);
     let sheets: Vec<Vec<u8>> = (0..SHEETS).map(|_| random.line(STRETCHES, SIGNALS).written()).collect();
     let proved = way(|s: &Vec<u8>| signal(raw::sheet_signal(s, SIGNALS - 1)));
-    let peer = way(|s: &Vec<u8>| signal(sheet::signal(s, SIGNALS - 1)));
-    compared("sheet check, 512 and 64", &sheets, 1.0, &[proved, peer]);
+    // the library's plan for a check is the plain one
+    let peer = || way(|s: &Vec<u8>| signal(sheet::signal(s, SIGNALS - 1)));
+    compared("sheet check, 512 and 64", &sheets, 1.0, &[proved, peer(), peer()]);
 }

@@ -2,11 +2,11 @@
 use crate::plain::step::{self as plain, beta, course, deceleration, Course};
 use approach::raw::{Curve, Distances, Train};
 
-/// A braking part in µm is `least` to `most` over `a`, or `a` and 1; Vβ in 10⁹, lowered.
+/// Vβ in 10⁹, lowered; a braking part in µm is at least `part` and at most `most` over `a`.
 struct Bounds {
     beta: u64,
     a: u64,
-    least: u64,
+    part: u64,
     most: u64,
 }
 
@@ -16,10 +16,11 @@ fn bounds(c: Course, from: u32, to: u32, v0: u32) -> Bounds {
     let target = 2_500_000 * v0 as u64;
     let low = beta(c, to, v0) / 1_000_000_000;
     let high = low + 1;
+    let a = 81 * deceleration(c, s, v0) / 32_000_000;
     Bounds {
         beta: low,
-        a: 81 * deceleration(c, s, v0) / 32_000_000,
-        least: (low - target) * (low + target) / 64 * s,
+        a,
+        part: (low - target) * (low + target) / 64 * s / (a + 1),
         most: ((high - target) * (high + target) / 64 + 1) * s,
     }
 }
@@ -40,7 +41,7 @@ fn run(curve: Curve, c: Course, beta: u64, v: u32) -> (u64, u64) {
 #[inline(always)]
 fn settled(curve: Curve, c: Course, v: u32, b: &Bounds) -> Option<u32> {
     let (run, rest) = run(curve, c, b.beta, v);
-    let n = (run + b.least / (b.a + 1)).div_ceil(1000);
+    let n = (run + b.part).div_ceil(1000);
     let room = (1000 * n).checked_sub(run + rest)?;
     (b.most <= b.a * room).then_some(n as u32)
 }
