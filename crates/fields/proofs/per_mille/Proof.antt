@@ -1,12 +1,16 @@
--- `per_mille`: 65,536 less, from 32,768 on.
-use Prim.Native.Nat.{ℕ, zero, suc, _+_, _-_, _<_}
+-- `per_mille`: 32,768 up, wrapped at 65,536, and 32,768 down is 65,536 less from 32,768 on.
+use Prim.Native.Nat.{ℕ, _+_, _-_, _%_, _≤_, _<_}
 use borrow.Author.Needs.{needs}
-use lib.IntN.{pos, negsuc, _-ℤ_}
-use mathlib.Core.Path.{_≡_, refl, sym, ap, _∙_}
+use borrow.Author.Tests.{lt-ltb, le-ltb}
+use lib.IntN.{ℤ, pos, negsuc, _-ℤ_}
+use mathlib.Core.Logic.{⊎-elim}
+use mathlib.Core.Path.{_≡_, sym, ap, _∙_, subst}
 use mir.Syntax.{w32}
 use mir.Val.{SFits, toZ}
 use mir.ValLaws.{toZ-ofZ}
 use native.Mathlib.Omega.{arith}
+use Rattle.lists.proofs.Split.{below}
+use Rattle.line.specs.Bytes.{signed}
 use Rattle.line.proofs.Complement.{signed-up, signed-down}
 use Rattle.fields.proofs.per_mille.Statement.{statement}
 use Rattle.fields.proofs.per_mille.Tie as tie
@@ -14,35 +18,46 @@ use Rattle.fields.proofs.per_mille.Tie as tie
 small : (n : ℕ) → n < 65536 → toZ w32 n ≡ pos n
 small n h = toZ-ofZ w32 (pos n) (record { sfits = omega arith })
 
-turned : (n : ℕ) → negsuc 0 -ℤ pos n ≡ negsuc n
-turned zero = refl
-turned (suc n) = ap negsuc (let z : suc (0 + n) ≡ suc n = omega arith in z)
+abbrev lowered : ℕ → ℤ
+lowered n = pos n -ℤ pos 32768
 
-below-fits : (n : ℕ) → n < 65536 → SFits w32 (negsuc n)
-below-fits n h = record { sfits = omega arith }
+up : (n : ℕ) → lowered (n + 32768) ≡ pos n
+up n = simp (le-ltb (n + 32768) 32768 (omega arith)) (ap pos (omega arith))
+
+down : (n : ℕ) → n < 32768 → lowered n ≡ negsuc (32767 - n)
+down n h = simp (lt-ltb n 32768 h) (ap negsuc (omega arith))
+
+wrapped : (x : ℕ) → x < 65536 → lowered ((x + 32768) % 65536) ≡ signed x
+wrapped x h =
+    ⊎-elim
+    (λ l. ap lowered (let e : (x + 32768) % 65536 ≡ x + 32768 = omega arith in e) ∙ up x ∙ sym (signed-up x l))
+    (λ l.
+    let e : (x + 32768) % 65536 ≡ x - 32768 = omega arith in
+    let f : 32767 - (x - 32768) ≡ 65535 - x = omega arith in
+    ap lowered e ∙ down (x - 32768) (omega arith) ∙ ap negsuc f ∙ sym (signed-down x l))
+    (below x 32768)
+
+add-raised : tie.Need-add-raised
+add-raised c = search needs
 
 cast-result : tie.Need-cast-result
 cast-result c = search needs
 
-returns : tie.Need-returns
-returns c = small _ (omega arith) ∙ sym (signed-up _ (c .if1 .taken))
+signed-fits : (x : ℕ) → x < 65536 → SFits w32 (signed x)
+signed-fits x h =
+    ⊎-elim
+    (λ l. rw (signed-up x l) (record { sfits = omega arith }))
+    (λ l. rw (signed-down x l) (record { sfits = omega arith }))
+    (below x 32768)
 
-sub-below : tie.Need-sub-below
-sub-below c = search needs
-
-cast-result-2 : tie.Need-cast-result-2
-cast-result-2 c = search needs
+told : (x : ℕ) → x < 65536 → toZ w32 ((x + 32768) % 65536) -ℤ pos 32768 ≡ signed x
+told x h = ap (λ z. z -ℤ pos 32768) (small ((x + 32768) % 65536) (omega arith)) ∙ wrapped x h
 
 sub-result : tie.Need-sub-result
-sub-result c =
-    let n = 65535 - c .before .args .bits in
-    rw (small n (omega arith), turned n) (below-fits n (omega arith))
+sub-result c = subst (SFits w32) (sym (told (c .args .bits) (c .pre))) (signed-fits (c .args .bits) (c .pre))
 
-returns-2 : tie.Need-returns-2
-returns-2 c =
-    let n = 65535 - c .before .args .bits in
-    rw (small n (omega arith), turned n, toZ-ofZ w32 (negsuc n) (below-fits n (omega arith))) (sym (signed-down _ (c .if1 .left)))
+returns : tie.Need-returns
+returns c = toZ-ofZ w32 _ (sub-result c) ∙ told (c .args .bits) (c .pre)
 
 pub per-mille-spec : {M : Type 1} → statement M
-per-mille-spec =
-    tie.close (tie.spec cast-result returns sub-below cast-result-2 sub-result returns-2)
+per-mille-spec = tie.close (tie.spec add-raised cast-result sub-result returns)
