@@ -4,7 +4,7 @@ use borrow.Author.Needs.{needs}
 use borrow.Author.Tests.{lt-ltb, le-ltb}
 use lib.IntN.{ℤ, pos, negsuc, _-ℤ_}
 use mathlib.Core.Logic.{⊎-elim}
-use mathlib.Core.Path.{_≡_, sym, ap, _∙_, subst}
+use mathlib.Core.Path.{_≡_, sym, ap, _∙_}
 use mir.Syntax.{w32}
 use mir.Val.{SFits, toZ}
 use mir.ValLaws.{toZ-ofZ}
@@ -15,14 +15,11 @@ use Rattle.line.proofs.Complement.{signed-up, signed-down}
 use Rattle.fields.proofs.per_mille.Statement.{statement}
 use Rattle.fields.proofs.per_mille.Tie as tie
 
-small : (n : ℕ) → n < 65536 → toZ w32 n ≡ pos n
-small n h = toZ-ofZ w32 (pos n) (record { sfits = omega arith })
-
 abbrev lowered : ℕ → ℤ
 lowered n = pos n -ℤ pos 32768
 
-up : (n : ℕ) → lowered (n + 32768) ≡ pos n
-up n = simp (le-ltb (n + 32768) 32768 (omega arith)) (ap pos (omega arith))
+up : (n : ℕ) → 32768 ≤ n → lowered n ≡ pos (n - 32768)
+up n h = simp (le-ltb n 32768 h)
 
 down : (n : ℕ) → n < 32768 → lowered n ≡ negsuc (32767 - n)
 down n h = simp (lt-ltb n 32768 h) (ap negsuc (omega arith))
@@ -30,12 +27,27 @@ down n h = simp (lt-ltb n 32768 h) (ap negsuc (omega arith))
 wrapped : (x : ℕ) → x < 65536 → lowered ((x + 32768) % 65536) ≡ signed x
 wrapped x h =
     ⊎-elim
-    (λ l. ap lowered (let e : (x + 32768) % 65536 ≡ x + 32768 = omega arith in e) ∙ up x ∙ sym (signed-up x l))
+    (λ l.
+    let e : (x + 32768) % 65536 ≡ x + 32768 = omega arith in
+    let f : x + 32768 - 32768 ≡ x = omega arith in
+    ap lowered e ∙ up (x + 32768) (omega arith) ∙ ap pos f ∙ sym (signed-up x l))
     (λ l.
     let e : (x + 32768) % 65536 ≡ x - 32768 = omega arith in
     let f : 32767 - (x - 32768) ≡ 65535 - x = omega arith in
     ap lowered e ∙ down (x - 32768) (omega arith) ∙ ap negsuc f ∙ sym (signed-down x l))
     (below x 32768)
+
+-- as the machine has it
+told : (n : ℕ) → n < 131072 → toZ w32 n ≡ pos n
+told n h = toZ-ofZ w32 (pos n) (record { sfits = omega arith })
+
+fits : (n : ℕ) → n < 131072 → SFits w32 (toZ w32 n -ℤ pos 32768)
+fits n h =
+    rw (told n h)
+    (⊎-elim
+    (λ l. rw (down n l) (record { sfits = omega arith }))
+    (λ l. rw (up n l) (record { sfits = omega arith }))
+    (below n 32768))
 
 add-raised : tie.Need-add-raised
 add-raised c = search needs
@@ -43,21 +55,14 @@ add-raised c = search needs
 cast-result : tie.Need-cast-result
 cast-result c = search needs
 
-signed-fits : (x : ℕ) → x < 65536 → SFits w32 (signed x)
-signed-fits x h =
-    ⊎-elim
-    (λ l. rw (signed-up x l) (record { sfits = omega arith }))
-    (λ l. rw (signed-down x l) (record { sfits = omega arith }))
-    (below x 32768)
-
-told : (x : ℕ) → x < 65536 → toZ w32 ((x + 32768) % 65536) -ℤ pos 32768 ≡ signed x
-told x h = ap (λ z. z -ℤ pos 32768) (small ((x + 32768) % 65536) (omega arith)) ∙ wrapped x h
+returns : tie.Need-returns
+returns c =
+    let x = c .args .bits in
+    let n = (x + 32768) % 65536 in
+    toZ-ofZ w32 _ (fits n (omega arith)) ∙ ap (λ z. z -ℤ pos 32768) (told n (omega arith)) ∙ wrapped x (c .pre)
 
 sub-result : tie.Need-sub-result
-sub-result c = subst (SFits w32) (sym (told (c .args .bits) (c .pre))) (signed-fits (c .args .bits) (c .pre))
-
-returns : tie.Need-returns
-returns c = toZ-ofZ w32 _ (sub-result c) ∙ told (c .args .bits) (c .pre)
+sub-result c = fits ((c .args .bits + 32768) % 65536) (omega arith)
 
 pub per-mille-spec : {M : Type 1} → statement M
 per-mille-spec = tie.close (tie.spec add-raised cast-result sub-result returns)
