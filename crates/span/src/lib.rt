@@ -11,7 +11,7 @@ use train::Gradient;
 use train::Metre;
 
 // What the pass keeps after a stretch: its own gradient while it starts at or before the span, else the less of both.
-// Signed, as read: rise and fall of each stretch would cost more than the rest of the pass.
+// Signed, as read: a rise and a fall of every stretch make the pass dearer.
 fn follow(least: i32, from: u32, start: u32, g: i32) -> i32
     ensures { λ r. ⌜ gradientOf r ≡ followed from (gradientOf least) start (gradientOf g) ⌝ }
 {
