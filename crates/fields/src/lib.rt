@@ -10,16 +10,13 @@ use line::bytes::u16_at;
 use line::bytes::u32_at;
 use train::Metre;
 
-// Two's complement of two bytes.
+// Two's complement of two bytes: half the range up, wrapped, and down again, which compiles to a sign extension.
 fn per_mille(bits: u32) -> i32
     requires { ⌜ bits < 65536 ⌝ }
     ensures { λ r. ⌜ r ≡ signed bits ⌝ }
 {
-    if bits < 32768 {
-        return bits as i32;
-    }
-    let below = 65535 - bits;
-    -1 - (below as i32)
+    let raised = (bits + 32768) % 65536;
+    raised as i32 - 32768
 }
 
 // How many stretches.

@@ -1,14 +1,11 @@
 -- Point by point: which stretch holds a point, and the least over the points of a span.
 use mathlib.Core.Path.{_≡_, sym, ap, _∙_}
-use mathlib.Core.Bool.{Bool, true, false, cond}
 use mathlib.Core.Logic.{⊎-elim}
 use Prim.Native.Nat.{ℕ, zero, suc, _+_, _-_, _≤_, _<_}
 use native.Mathlib.Omega.{arith}
 use borrow.Author.Tests.{le-leb, lt-leb}
-use lib.Dec.{leb}
 use Rattle.lists.proofs.Split.{below, earlier}
 use Rattle.train.specs.declared.Gradient.{Gradient}
-use Rattle.train.specs.Gradient.{Moderate}
 use Rattle.line.specs.Line.{Line}
 use Rattle.sheet.proofs.Kept.{Kept}
 use Rattle.span.specs.Least.{_≼_, lesser, slope, reach, Holds, slopeUpTo, slopeAt, leastOf, Meets, LeastOver}
@@ -100,19 +97,14 @@ module _ (l : Line) (h : Kept l) where
 -- where the pass stands after k stretches
 pub record Passed (l : Line) (from to k : ℕ) (g : Gradient) : Type 0 where
   pub few : k ≤ l .stretches
-  pub moderate : Moderate g
   pub best : 0 < k → Best (cut l to k) from to g
 
 module _ (l : Line) (h : Kept l) (from to : ℕ) (ahead : from < to) (on : to ≤ l .end) where
   pub passed-none : Passed l from to 0 (record { rise = 0; fall = 0 })
-  passed-none = record { few = omega arith; moderate = record { rise = omega arith; fall = omega arith }; best = λ z. absurd (let k : 0 < 0 = z in omega arith) }
+  passed-none = record { few = omega arith; best = λ z. absurd (let k : 0 < 0 = z in omega arith) }
 
   pub passed-more : (k : ℕ) (g : Gradient) → Passed l from to k g → k < l .stretches → l .start k < to → Passed l from to (suc k) (followed from g (l .start k) (slope l k))
-  passed-more k g p n s = record { few = n; moderate = small (leb (l .start k) from); best = λ z. onward l h from to ahead k g n s (p .best) }
-    where
-      small : (b : Bool) → Moderate (cond b (slope l k) (lesser g (slope l k)))
-      small true = h .stretches .each k n .1
-      small false = ⊎-elim (λ e. rw e (p .moderate)) (λ e. rw e (h .stretches .each k n .1)) (lesser-one g (slope l k))
+  passed-more k g p n s = record { few = n; best = λ z. onward l h from to ahead k g n s (p .best) }
 
   pub passed-all : (k : ℕ) (g : Gradient) → Passed l from to k g → (k < l .stretches → to ≤ l .start k) → LeastOver l from to g
   passed-all k g p done =

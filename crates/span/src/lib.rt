@@ -2,7 +2,7 @@
 ghost use mathlib.Core.Path.{_≡_};
 ghost use mathlib.Core.Bool.{true};
 ghost use Prim.Native.Nat.{_≤_, _<_};
-ghost use Rattle.train.specs.Gradient.{Moderate};
+ghost use Rattle.train.specs.Gradient.{gradientOf};
 ghost use Rattle.sheet.specs.Sheet.{lineOf, accepted};
 ghost use Rattle.span.specs.Least.{LeastOver};
 ghost use Rattle.span.specs.Pass.{followed};
@@ -11,18 +11,14 @@ use train::Gradient;
 use train::Metre;
 
 // What the pass keeps after a stretch: its own gradient while it starts at or before the span, else the less of both.
-fn follow(least: Gradient, from: u32, start: u32, g: Gradient) -> Gradient
-    requires { ⌜ Moderate least × Moderate g ⌝ }
-    ensures { λ r. ⌜ r ≡ followed from least start g ⌝ }
+// Signed, as read: a rise and a fall of every stretch make the pass dearer.
+fn follow(least: i32, from: u32, start: u32, g: i32) -> i32
+    ensures { λ r. ⌜ gradientOf r ≡ followed from (gradientOf least) start (gradientOf g) ⌝ }
 {
-    let up = least.rise;
-    let down = least.fall;
-    let rise = g.rise;
-    let fall = g.fall;
     if start <= from {
         return g;
     }
-    if up + fall <= rise + down {
+    if least <= g {
         return least;
     }
     g
@@ -36,19 +32,18 @@ pub fn least(s: &[u8], from: Metre, to: Metre) -> Gradient
     let first = from.0;
     let last = to.0;
     let mut mark = Mark::fresh();
-    let mut least = Gradient { rise: 0, fall: 0 };
+    let mut least: i32 = 0;
     loop {
         let step = mark.step(s);
         let end = step.end;
         let start = step.start.0;
         if end > 0 {
-            return least;
+            return slope::gradient_of(least);
         }
         if start >= last {
-            return least;
+            return slope::gradient_of(least);
         }
-        let g = slope::gradient_of(step.gradient);
-        least = follow(least, first, start, g);
+        least = follow(least, first, start, step.gradient);
         mark = step.mark;
     }
 }
