@@ -1,11 +1,11 @@
 -- Where a distance with the deceleration of one speed and the speeds of another fits, so does that of each speed between them.
 use mathlib.Core.Path.{_≡_, refl, sym}
 use mathlib.Core.List.{[], _∷_}
-use Prim.Native.Nat.{ℕ, _+_, _*_, _-_, _^_, _≤_, _<_, max}
+use Prim.Native.Nat.{ℕ, _+_, _*_, _^_, _≤_, _<_}
 use native.Mathlib.Omega.{arith}
 use native.Mathlib.Nat.{mul-le-mul, add-le-add, le-refl, le-of-eq, le-dest, le-of-mul-le-mul-right}
 use Rattle.exact.proofs.Polynomial.{num, _⊕_, _⊗_}
-use Rattle.exact.proofs.Certificate.{x0, x1, x2, x3, x4, x5, x6, x7, x8, done, times, cert}
+use Rattle.exact.proofs.Certificate.{x0, x1, x2, x3, x4, x5, x6, x7, done, times, cert}
 use Rattle.braking.specs.declared.Course.{Course}
 use Rattle.braking.specs.Plan.{v9, sOf, betaOf, Near}
 use Rattle.braking.proofs.Bounds.{s-small}

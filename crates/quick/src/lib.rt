@@ -14,7 +14,8 @@ use train::Kmh;
 use train::Metre;
 use train::Millimetre;
 
-// For every curve: Vβ in m/s / (9·10⁶), lowered; the braking part in µm is at least `part` and at most `most` over `a`.
+// For every curve: Vβ in m/s / (9·10⁶), lowered; the braking part in µm is at least `part` and at most `most` over `a`. Both are
+// s (Vβ² - V0²) / 64 over 81 decelerations / (32·10⁶), lowered and raised.
 pub struct Bounds {
     pub beta: u64,
     pub a: u64,
@@ -34,6 +35,7 @@ pub fn bounds_at(c: Course, from: Kmh, to: Kmh, v0: Kmh) -> Bounds
     ensures { λ r. ⌜ IsBounds c (from .0) (to .0) (v0 .0) r ⌝ }
 {
     let s = strength::at(c, from, v0);
+    // V0 is a whole number of these units
     let target = 2500000 * v0.0 as u64;
     let low = strength::beta(c, to, v0) / 1000000000;
     let high = low + 1;

@@ -1,5 +1,5 @@
 -- The place in one word: the plan's numbers are whole numbers of tr, and a fraction of a unit changes nothing that is raised.
-use mathlib.Core.Path.{_≡_, refl, sym, _∙_}
+use mathlib.Core.Path.{_≡_, refl, sym}
 use mathlib.Core.List.{[], _∷_}
 use Prim.Native.Nat.{ℕ, _+_, _*_, _-_, _^_, _/_, _%_, _≤_, _<_}
 use native.Mathlib.Omega.{arith}
@@ -13,8 +13,7 @@ use Rattle.exact.proofs.Raised.{raised-over-le}
 use Rattle.motion.specs.declared.Plan.{Plan}
 use Rattle.motion.specs.Plan.{cubes, gain, loss}
 use Rattle.planning.specs.Fair.{Small, Counted}
-use Rattle.stopping.specs.Stop.{longest, wordLong, placeUp}
-use Rattle.stopping.proofs.Bounds.{place-most}
+use Rattle.stopping.specs.Stop.{wordLong, placeUp}
 
 -- a product over tr, from the two parts of x
 module _ (p x tr : ℕ) (l : 0 < tr) where
@@ -70,7 +69,7 @@ raised-word n d y u tr l p h k e =
             (num 1) (num 0) refl in
             absurd (let z : ⊥ = omega (arith, c) in z)
 
--- w is the mean speed without the brake, x what the brake takes off, lowered
+-- at a moment at which the train has not rolled back beyond its start
 module _ (m : Plan) (t : ℕ) (s : Small m) (h : loss m t ≤ gain m t) where
   abbrev c : Counted m
   c = s .counted
