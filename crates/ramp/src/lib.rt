@@ -108,7 +108,7 @@ fn stop_at(m: Plan) -> Stop
     }
 }
 
-// The stop of the same plan from another speed: all else of the plan, and whether it is strong enough, is the same at every speed.
+// The stop of a plan from v. Only the start of a plan changes with the speed, so a climb makes one plan for all its speeds.
 pub fn stop_from(m: Plan, v: Kmh) -> Stop
     requires { ⌜ Small m × Enough m × (v .0 ≤ 100) ⌝ }
     ensures { λ r. ⌜ Stops (fromSpeed m (v .0)) r ⌝ }

@@ -8,7 +8,7 @@ use borrow.Author.Tests.{le-leb, leb-true}
 use Rattle.train.specs.declared.Metre.{Metre}
 use Rattle.motion.specs.declared.Plan.{Plan}
 use Rattle.planning.specs.Fair.{Small, Enough}
-use Rattle.ramp.proofs.Slower.{slower}
+use Rattle.ramp.proofs.Speeds.{slower}
 use Rattle.release.specs.Release.{stopsWithin}
 use Rattle.release.specs.Find.{Each, Sure}
 

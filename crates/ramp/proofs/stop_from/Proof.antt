@@ -1,7 +1,7 @@
 -- `stop_from`: from another speed the plan is as small, and as strong.
 use borrow.Author.Needs.{needs}
 use native.Mathlib.Omega.{arith}
-use Rattle.ramp.proofs.Slower.{from-small}
+use Rattle.ramp.proofs.Speeds.{from-small}
 use Rattle.ramp.proofs.stop_from.Statement.{statement}
 use Rattle.ramp.proofs.stop_from.Tie as tie
 

@@ -3,7 +3,7 @@ use borrow.Author.Needs.{needs}
 use mathlib.Core.Path.{ap}
 use Prim.Native.Nat.{_*_}
 use lib.Dec.{leb}
-use Rattle.ramp.proofs.Slower.{from-distance}
+use Rattle.ramp.proofs.Speeds.{from-distance}
 use Rattle.release.proofs.stops_within.Statement.{statement}
 use Rattle.release.proofs.stops_within.Tie as tie
 
