@@ -36,13 +36,13 @@ module _ (k : Coefficients) (o : Overrun) (z : firstOf (rampRefusals k o) ≡ 0)
     is : IsPlan k o m
     is = planOf-is k o (fair .some)
 
-    pub small : Small m
+    small : Small m
     small = planOf-small k o w fair
 
-    pub turning : (t : ℕ) × Turns m t
+    turning : (t : ℕ) × Turns m t
     turning = turns m small (leb-true _ _ (strong-is k o m is small ∙ is-strong))
 
-    pub gets-to : distance k o ≡ placeUp m (turning .0) + 1
+    gets-to : distance k o ≡ placeUp m (turning .0) + 1
     gets-to = sym (distance-is k o m is small (turning .0) (turning .1))
 
     pub always : Promise k o leeway (distance k o) (moment k o)

@@ -1,10 +1,10 @@
 -- What the code finds out, refusal by refusal, makes the answer of the definition.
-use mathlib.Core.Path.{_≡_, refl, ap, _∙_}
-use mathlib.Core.Bool.{true, false, cond}
-use Prim.Native.Nat.{ℕ, zero, suc, _<_}
+use mathlib.Core.Path.{_≡_, refl, _∙_}
+use mathlib.Core.Bool.{true, false}
+use Prim.Native.Nat.{ℕ, _<_}
 use native.Mathlib.Omega.{arith}
 use borrow.Author.Tests.{ltb-false, ne-eqb}
-use lib.Dec.{eqb, lit≤}
+use lib.Dec.{lit≤}
 use Rattle.train.specs.declared.Coefficients.{Coefficients}
 use Rattle.train.specs.Coefficients.{first}
 use Rattle.train.specs.Refusal.{firstOf}
@@ -13,7 +13,7 @@ use Rattle.motion.specs.declared.Overrun.{Overrun}
 use Rattle.motion.specs.declared.Plan.{Plan}
 use Rattle.planning.specs.Fair.{Fair}
 use Rattle.ramp.specs.declared.Stop.{Stop}
-use Rattle.ramp.specs.Answer.{inputs, strong, weak, rampRefusals, refused, moment, distance, stopOf, RampAnswers}
+use Rattle.ramp.specs.Answer.{inputs, strong, weak, rampRefusals, refused, stopOf, RampAnswers}
 use Rattle.ramp.specs.Begin.{IsReady, Stops}
 use Rattle.ramp.proofs.Moment.{moment-is}
 use Rattle.ramp.proofs.Kept.{promised, distance-is, wider}
@@ -68,16 +68,3 @@ module _ (k : Coefficients) (o : Overrun) where
         answer = rw (i .accepted, ← t, ← d, ← h .refusal) refl;
         promise = λ z. rw (h .distance) (wider k o 2 _ _ _ (lit≤ tt) (promised k o m (i .plan) (i .small) (r .moment) (h .turns)));
       }
-
-  -- what an answer says of the refusals, and of the distance where there are none
-  pub answer-refusal : (r : Stop) → RampAnswers k o r → r .refusal ≡ firstOf (rampRefusals k o)
-  unfolding stopOf
-  answer-refusal r a = ap (λ s. s .refusal) (a .answer) ∙ go (firstOf (rampRefusals k o))
-    where
-      go : (n : ℕ) → cond (eqb n 0) (record { refusal = 0; distance = record { 0 = distance k o }; moment = moment k o }) (refused n) .refusal ≡ n
-      go zero = refl
-      go (suc n) = rw (ne-eqb (suc n) 0 (λ i. omega arith)) refl
-
-  pub answer-distance : (r : Stop) → RampAnswers k o r → firstOf (rampRefusals k o) ≡ 0 → r .distance .0 ≡ distance k o
-  unfolding stopOf
-  answer-distance r a z = ap (λ s. s .distance .0) (a .answer) ∙ rw z refl

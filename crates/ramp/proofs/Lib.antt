@@ -2,4 +2,4 @@ mod Moment
 mod Kept
 pub mod Answers
 pub mod Always
-pub mod Slower
+pub mod Speeds

@@ -1,13 +1,13 @@
 -- What the code knows before it looks for the stop, and what it finds.
 use mathlib.Core.Path.{_≡_}
-use Prim.Native.Nat.{_+_, _<_}
+use Prim.Native.Nat.{ℕ, _+_, _*_, _<_}
 use Rattle.train.specs.declared.Coefficients.{Coefficients}
 use Rattle.train.specs.Refusal.{firstOf}
 use Rattle.motion.specs.declared.Overrun.{Overrun}
 use Rattle.motion.specs.declared.Plan.{Plan}
 use Rattle.motion.specs.Plan.{IsPlan}
 use Rattle.planning.specs.Fair.{Small, Enough}
-use Rattle.stopping.specs.Stop.{Turns, placeUp}
+use Rattle.stopping.specs.Stop.{Turns, placeUp, from}
 use Rattle.ramp.specs.declared.Stop.{Stop}
 use Rattle.ramp.specs.declared.Begun.{Begun}
 use Rattle.ramp.specs.declared.Begun.the-variants.{Refused, Ready}
@@ -17,6 +17,10 @@ pub record Stops (m : Plan) (r : Stop) : Type 0 where
   pub refusal : r .refusal ≡ 0
   pub turns : Turns m (r .moment)
   pub distance : r .distance .0 ≡ placeUp m (r .moment) + 1
+
+-- the same plan from v km/h
+abbrev pub fromSpeed : Plan → ℕ → Plan
+fromSpeed m v = from m (50000000000 * v * m .tr)
 
 module _ (k : Coefficients) (o : Overrun) where
   pub record IsReady (m : Plan) : Type 0 where

@@ -1,11 +1,12 @@
 // The ramp: how far past a closed signal a train gets that is braked there, and when. Document 01, "Ramp".
 ghost use mathlib.Core.Path.{_≡_};
+ghost use Prim.Native.Nat.{_≤_};
 ghost use Rattle.train.specs.Coefficients.{first, Within};
 ghost use Rattle.train.specs.Gradient.{gradientOf};
 ghost use Rattle.train.specs.Refusal.{firstOf};
 ghost use Rattle.ramp.specs.Answer.{overrun, timeRefusals, inputs, refused, RampAnswers};
 ghost use Rattle.planning.specs.Fair.{Small, Enough};
-ghost use Rattle.ramp.specs.Begin.{Starts, Stops};
+ghost use Rattle.ramp.specs.Begin.{Starts, Stops, fromSpeed};
 use motion::Overrun;
 use motion::Plan;
 use train::Coefficients;
@@ -21,7 +22,7 @@ pub struct Stop {
 }
 
 // A refusal, or the motion in whole numbers.
-enum Begun {
+pub enum Begun {
     Refused(u32),
     Ready(Plan),
 }
@@ -66,7 +67,7 @@ fn turned_away(o: Overrun) -> u32
 }
 
 // What stands before every answer.
-fn start(k: Coefficients, o: Overrun) -> Begun
+pub fn start(k: Coefficients, o: Overrun) -> Begun
     requires { ⌜ Within k ⌝ }
     ensures { λ r. ⌜ Starts k o r ⌝ }
 {
@@ -105,6 +106,23 @@ fn stop_at(m: Plan) -> Stop
         distance: Millimetre(mm),
         moment: ms,
     }
+}
+
+// The stop of a plan from v. Only the start of a plan changes with the speed, so a climb makes one plan for all its speeds.
+pub fn stop_from(m: Plan, v: Kmh) -> Stop
+    requires { ⌜ Small m × Enough m × (v .0 ≤ 100) ⌝ }
+    ensures { λ r. ⌜ Stops (fromSpeed m (v .0)) r ⌝ }
+{
+    let speed = v.0 as u64;
+    let start = 50000000000 * speed * m.tr;
+    stop_at(Plan {
+        start: start,
+        up: m.up,
+        down: m.down,
+        brake: m.brake,
+        tm: m.tm,
+        tr: m.tr,
+    })
 }
 
 // The answer with any coefficients of the slope.

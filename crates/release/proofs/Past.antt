@@ -25,9 +25,6 @@ module _ (k : Coefficients) (o : Overrun) where
   unfolding strong dp
   any-speed v a b = rw (le-ltb v 1 a, le-ltb 100 v b) refl
 
-  pub accepted : refusal 1 ≡ 0 → (v : ℕ) → 0 < v → v ≤ 100 → refusal v ≡ 0
-  accepted z v l h = any-speed v (omega arith) h ∙ z
-
   same-strength : (v : ℕ) → strong k (atSpeed o v) ≡ strong k o
   unfolding strong dp
   same-strength v = refl

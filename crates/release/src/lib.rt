@@ -4,11 +4,14 @@ ghost use mathlib.Core.Path.{_≡_};
 ghost use Prim.Native.Nat.{min, _≤_};
 ghost use Rattle.train.specs.Coefficients.{Within};
 ghost use Rattle.train.specs.Refusal.{firstOf};
-ghost use Rattle.ramp.specs.Answer.{inputs, rampRefusals};
+ghost use Rattle.planning.specs.Fair.{Small, Enough};
+ghost use Rattle.ramp.specs.Answer.{inputs};
 ghost use Rattle.climb.specs.Climb.{climb};
 ghost use Rattle.release.specs.Release.{atSpeed, stopsWithin};
-ghost use Rattle.release.specs.Find.{Releases, Sure};
+ghost use Rattle.release.specs.Find.{Releases, Each, Sure};
 use motion::Overrun;
+use motion::Plan;
+use ramp::Begun;
 use train::Coefficients;
 use train::Kmh;
 use train::Metre;
@@ -33,12 +36,12 @@ fn at_speed(o: Overrun, v: Kmh) -> Overrun
     }
 }
 
-// Whether the train stops within the overlap.
-fn stops_within(k: Coefficients, o: Overrun, overlap: Metre) -> bool
-    requires { ⌜ Within k × (firstOf (rampRefusals k o) ≡ 0) ⌝ }
-    ensures { λ r. ⌜ r ≡ stopsWithin k o overlap (o .v .0) ⌝ }
+// Whether the train stops within the overlap from v.
+fn stops_within(m: Plan, v: Kmh, overlap: Metre) -> bool
+    requires { ⌜ Small m × Enough m × (v .0 ≤ 100) ⌝ }
+    ensures { λ r. ⌜ Each m (λ k o. r ≡ stopsWithin k o overlap (v .0)) ⌝ }
 {
-    let stop = ramp::stop_of(k, o);
+    let stop = ramp::stop_from(m, v);
     let distance = stop.distance;
     let reached = distance.0 as u64;
     let end = 1000 * overlap.0 as u64;
@@ -54,15 +57,15 @@ fn highest(top: Kmh) -> Kmh
 
 // A speed up to which the climb need not ask: a slower train stops no further, so where one speed fits, each below it does.
 // Between low, which is 0 or fits, and high, which does not fit or is past the last, halved until they are neighbours.
-fn surely_stopping(k: Coefficients, o: Overrun, overlap: Metre, last: Kmh) -> Kmh
-    requires { ⌜ Within k × (firstOf (rampRefusals k (atSpeed o 1)) ≡ 0) × (last .0 ≤ 100) ⌝ }
-    ensures { λ r. ⌜ (r .0 ≤ last .0) × Sure k o overlap (r .0) ⌝ }
+fn surely_stopping(m: Plan, overlap: Metre, last: Kmh) -> Kmh
+    requires { ⌜ Small m × Enough m × (last .0 ≤ 100) ⌝ }
+    ensures { λ r. ⌜ (r .0 ≤ last .0) × Each m (λ k o. Sure k o overlap (r .0)) ⌝ }
 {
     let mut low: u32 = 0;
     let mut high: u32 = last.0 + 1;
     while high - low > 1 {
         let middle = low + (high - low) / 2;
-        if stops_within(k, at_speed(o, Kmh(middle)), overlap) {
+        if stops_within(m, Kmh(middle), overlap) {
             low = middle;
         } else {
             high = middle;
@@ -72,13 +75,13 @@ fn surely_stopping(k: Coefficients, o: Overrun, overlap: Metre, last: Kmh) -> Km
 }
 
 // The climb from 1 km/h. The ramp is asked only above the sure speed.
-fn last_stopping(k: Coefficients, o: Overrun, overlap: Metre, top: Kmh) -> Kmh
-    requires { ⌜ Within k × (firstOf (rampRefusals k (atSpeed o 1)) ≡ 0) ⌝ }
-    ensures { λ r. ⌜ r .0 ≡ climb (stopsWithin k o overlap) 0 (min 100 (top .0)) ⌝ }
+fn last_stopping(m: Plan, overlap: Metre, top: Kmh) -> Kmh
+    requires { ⌜ Small m × Enough m ⌝ }
+    ensures { λ r. ⌜ Each m (λ k o. r .0 ≡ climb (stopsWithin k o overlap) 0 (min 100 (top .0))) ⌝ }
 {
     let last = highest(top);
     let end = last.0;
-    let surely = surely_stopping(k, o, overlap, last);
+    let surely = surely_stopping(m, overlap, last);
     let sure = surely.0;
     let mut v: u32 = 0;
     let best = loop {
@@ -87,7 +90,7 @@ fn last_stopping(k: Coefficients, o: Overrun, overlap: Metre, top: Kmh) -> Kmh
         }
         let next = v + 1;
         if next > sure {
-            if !stops_within(k, at_speed(o, Kmh(next)), overlap) {
+            if !stops_within(m, Kmh(next), overlap) {
                 break v;
             }
         }
@@ -96,7 +99,8 @@ fn last_stopping(k: Coefficients, o: Overrun, overlap: Metre, top: Kmh) -> Kmh
     Kmh(best)
 }
 
-// The release speed. An overlap of no length gives 0, and the ramp is not consulted.
+// The release speed. An overlap of no length gives 0, and the ramp is not consulted. Its refusals and its plan but for the
+// speed are the same at every speed.
 pub fn speed(k: Coefficients, o: Overrun, overlap: Metre, top: Kmh) -> Release
     requires { ⌜ Within k × (firstOf (inputs (atSpeed o 1)) ≡ 0) ⌝ }
     ensures { λ r. ⌜ Releases k o overlap top r ⌝ }
@@ -104,9 +108,9 @@ pub fn speed(k: Coefficients, o: Overrun, overlap: Metre, top: Kmh) -> Release
     if overlap.0 < 1 {
         return Release::Speed(Kmh(0));
     }
-    let slowest = ramp::stop_of(k, at_speed(o, Kmh(1)));
-    if slowest.refusal > 0 {
-        return Release::Weak;
+    let begun = ramp::start(k, at_speed(o, Kmh(1)));
+    match begun {
+        Begun::Refused(_) => Release::Weak,
+        Begun::Ready(m) => Release::Speed(last_stopping(m, overlap, top)),
     }
-    Release::Speed(last_stopping(k, o, overlap, top))
 }

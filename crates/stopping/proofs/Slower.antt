@@ -12,12 +12,8 @@ use Rattle.exact.proofs.Raised.{raised-over-le}
 use Rattle.motion.specs.declared.Plan.{Plan}
 use Rattle.motion.specs.Plan.{gain, loss}
 use Rattle.motion.proofs.Furthest.{Gain, no-further}
-use Rattle.stopping.specs.Stop.{Turns, placeUp}
+use Rattle.stopping.specs.Stop.{Turns, placeUp, from}
 use Rattle.stopping.proofs.Rolling.{rolls-on}
-
--- the same motion from another speed
-abbrev pub from : Plan → ℕ → Plan
-from m v = record { start = v; up = m .up; down = m .down; brake = m .brake; tm = m .tm; tr = m .tr }
 
 module _ (m : Plan) (v w : ℕ) (h : v ≤ w) (t t′ : ℕ) (a : Turns (from m v) t) (b : Turns (from m w) t′) where
   no-later : t ≤ t′

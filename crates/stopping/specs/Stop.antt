@@ -21,3 +21,7 @@ pub record Turns (m : Plan) (t : ℕ) : Type 0 where
 -- the place at t in millimetres, raised
 unfoldable pub placeUp : Plan → ℕ → ℕ
 placeUp m t = raised ((gain m t - loss m t) over (108 * 10 ^ 10 * m .tr))
+
+-- the same motion from another speed
+abbrev pub from : Plan → ℕ → Plan
+from m v = record { start = v; up = m .up; down = m .down; brake = m .brake; tm = m .tm; tr = m .tr }

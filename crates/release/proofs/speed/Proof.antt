@@ -1,18 +1,20 @@
 -- `release::speed`: no overlap, or too weak along it, or the climb.
 use borrow.Author.Needs.{needs}
-use mathlib.Core.Path.{_≡_, _∙_}
+use mathlib.Core.Path.{_∙_}
 use native.Mathlib.Omega.{arith}
-use Rattle.train.specs.Refusal.{firstOf}
-use Rattle.ramp.specs.Answer.{rampRefusals}
-use Rattle.ramp.proofs.Answers.{answer-refusal}
+use Rattle.ramp.specs.declared.Begun.the-variants.{Refused}
+use Rattle.ramp.specs.Begin.{Starts, IsReady}
 use Rattle.release.specs.Release.{atSpeed}
 use Rattle.release.proofs.Past.{no-overlap, release-is, strong-past, weak-past}
 use Rattle.release.proofs.speed.Statement.{statement}
 use Rattle.release.proofs.speed.Tie as tie
 
 -- the ramp at 1 km/h
-consulted : (c : tie.After-stop-of) → let a = c .before .before .before .before .args in c .stop-of .result .refusal ≡ firstOf (rampRefusals (a .k) (atSpeed (a .o) 1))
-consulted c = rw (c .before .at-speed .ensures) at (answer-refusal (c .before .before .before .before .args .k) (c .before .at-speed .result) _ (c .stop-of .ensures))
+consulted : (c : tie.After-start) → let a = c .before .before .before .before .args in Starts (a .k) (atSpeed (a .o) 1) (c .start .result)
+consulted c = rw (c .before .at-speed .ensures) at (c .start .ensures)
+
+ready : (c : tie.After-known-told) → let a = c .before .before .before .before .before .before .before .args in IsReady (a .k) (atSpeed (a .o) 1) (c .before .begun .given .0 .0)
+ready c = rw (c .before .begun .given .1) at (consulted (c .before .before .before))
 
 returns : tie.Need-returns
 returns c = let a = c .before .before .args in no-overlap (a .k) (a .o) (a .overlap) (a .top) (omega (arith, c .if1 .taken))
@@ -20,8 +22,17 @@ returns c = let a = c .before .before .args in no-overlap (a .k) (a .o) (a .over
 at-speed-requires : tie.Need-at-speed-requires
 at-speed-requires c κs = search needs
 
-stop-of-requires : tie.Need-stop-of-requires
-stop-of-requires c κs = search needs
+start-requires : tie.Need-start-requires
+start-requires c κs = search needs
+
+enum-told : tie.Need-enum-told
+enum-told c = search needs
+
+enum-known-begun : tie.Need-enum-known-begun
+enum-known-begun c = search needs
+
+last-stopping-requires : tie.Need-last-stopping-requires
+last-stopping-requires c κs = let i = ready c in (i .small, i .enough)
 
 returns-2 : tie.Need-returns-2
 returns-2 c =
@@ -29,21 +40,16 @@ returns-2 c =
     let i = t .before .before in
     let s = i .before .before in
     let a = s .args in
-    weak-past (a .k) (a .o) (a .overlap) (i .if1 .left) (s .pre .1) (omega (arith, c .if2 .taken, consulted t))
-
-last-stopping-requires : tie.Need-last-stopping-requires
-last-stopping-requires c κs =
-    let t = c .before .before in
-    let s = t .before .before .before .before in
-    (s .pre .0, omega (arith, c .if2 .left, consulted t))
+    let h : Starts (a .k) (atSpeed (a .o) 1) (Refused (c .enum-told .given .0 .0)) = rw (c .enum-told .given .1) at (consulted t) in
+    weak-past (a .k) (a .o) (a .overlap) (i .if1 .left) (s .pre .1) (omega (arith, h .0, h .1))
 
 returns-3 : tie.Need-returns-3
 returns-3 c =
-    let t = c .before .before .before in
-    let i = t .before .before in
+    let r = ready (c .before) in
+    let i = c .before .before .before .before .before .before in
     let a = i .before .before .args in
     let h = i .if1 .left in
-    (strong-past (a .k) (a .o) (a .overlap) h (omega (arith, c .before .if2 .left, consulted t)), c .last-stopping .ensures ∙ release-is (a .k) (a .o) (a .overlap) h (a .top))
+    (strong-past (a .k) (a .o) (a .overlap) h (r .accepted), c .last-stopping .ensures (a .k) (atSpeed (a .o) 1) (r .plan) ∙ release-is (a .k) (a .o) (a .overlap) h (a .top))
 
 pub speed-spec : {M : Type 1} → statement M
 speed-spec =
@@ -51,7 +57,9 @@ speed-spec =
     (tie.spec
     returns
     at-speed-requires
-    stop-of-requires
-    returns-2
+    start-requires
+    enum-told
+    enum-known-begun
     last-stopping-requires
+    returns-2
     returns-3)

@@ -1,34 +1,23 @@
 -- `surely_stopping`: every speed up to low is sure, and halving brings high down to the next.
-use borrow.Author.Needs.{needs}
-use mathlib.Core.Path.{_≡_, sym, _∙_}
-use Prim.Native.Nat.{ℕ, _+_, _-_, _/_, _≤_, _<_}
+use mathlib.Core.Path.{sym, _∙_}
+use Prim.Native.Nat.{_-_, _≤_, _<_}
 use native.Mathlib.Omega.{arith}
-use Rattle.release.specs.Release.{stopsWithin}
-use Rattle.release.specs.Find.{Sure}
-use Rattle.release.proofs.Past.{accepted}
+use Rattle.release.specs.Find.{Each, Sure}
 use Rattle.release.proofs.Surely.{sure-of-none, sure-of}
 use Rattle.release.proofs.surely_stopping.Statement.{statement}
 use Rattle.release.proofs.surely_stopping.Tie as tie
 
 abbrev Inv-loop : tie.InvT-loop
-Inv-loop k o overlap low₀ high₀ low high = (low < high) × (high ≤ high₀) × Sure k o overlap low
+Inv-loop m overlap low₀ high₀ low high = (low < high) × (high ≤ high₀) × Each m (λ k o. Sure k o overlap low)
 
 abbrev μ-loop : tie.MeasureT-loop
-μ-loop k o overlap low₀ high₀ low high = high - low
-
-abbrev middle : ℕ → ℕ → ℕ
-middle low high = low + (high - low) / 2
-
--- the test is the definition's, at the middle
-tested : (c : tie.After-stops-within Inv-loop μ-loop) → let l = c .before .before .before in let a = l .before .before .args in
-    c .stops-within .result ≡ stopsWithin (a .k) (a .o) (a .overlap) (middle (l .loop .low) (l .loop .high))
-tested c = rw (c .before .at-speed .ensures) at (c .stops-within .ensures)
+μ-loop m overlap low₀ high₀ low high = high - low
 
 add-high : tie.Need-add-high Inv-loop μ-loop
 add-high c = omega (arith, c .before .pre .2)
 
 loop-holds : tie.Need-loop-holds Inv-loop μ-loop
-loop-holds c = let a = c .before .args in (omega arith, omega arith, sure-of-none (a .k) (a .o) (a .overlap))
+loop-holds c = let a = c .before .args in (omega arith, omega arith, sure-of-none (a .m) (a .overlap))
 
 sub-loop : tie.Need-sub-loop Inv-loop μ-loop
 sub-loop c = omega (arith, c .loop .inv .0)
@@ -39,34 +28,29 @@ sub-middle c = omega (arith, c .before .loop .inv .0)
 add-middle : tie.Need-add-middle Inv-loop μ-loop
 add-middle c = let i = c .before .loop .inv in omega (arith, i .0, i .1)
 
-at-speed-requires : tie.Need-at-speed-requires Inv-loop μ-loop
-at-speed-requires c κs = search needs
-
 stops-within-requires : tie.Need-stops-within-requires Inv-loop μ-loop
 stops-within-requires c κs =
-    let l = c .before .before in
-    let i = l .loop .inv in
-    let s = l .before .before in
-    let a = s .args in
-    rw (c .at-speed .ensures)
-    (s .pre .0, accepted (a .k) (a .o) (s .pre .1) (middle (l .loop .low) (l .loop .high)) (omega (arith, c .before .loop-test .taken)) (omega (arith, i .0, i .1, s .pre .2)))
+    let i = c .before .loop .inv in
+    let p = c .before .before .before .pre in
+    (p .0, p .1, omega (arith, i .0, i .1, p .2))
 
 loop-less : tie.Need-loop-less Inv-loop μ-loop
-loop-less c = omega (arith, c .before .before .before .before .loop .inv .0, c .before .before .before .loop-test .taken)
+loop-less c = omega (arith, c .before .before .before .loop .inv .0, c .before .before .loop-test .taken)
 
 loop-again : tie.Need-loop-again Inv-loop μ-loop
 loop-again c =
-    let l = c .before .before .before .before in
+    let l = c .before .before .before in
     let i = l .loop .inv in
     let s = l .before .before in
-    let a = s .args in
-    (omega (arith, i .0), i .1, sure-of (a .k) (a .o) (a .overlap) (s .pre .0) (s .pre .1) _ (omega (arith, i .0, i .1, s .pre .2)) (sym (tested (c .before)) ∙ c .if1 .taken))
+    let p = s .pre in
+    let t = c .before .stops-within .ensures in
+    (omega (arith, i .0), i .1, sure-of (s .args .m) (s .args .overlap) (p .0) (p .1) _ (omega (arith, i .0, i .1, p .2)) (λ k o is. sym (t k o is) ∙ c .if1 .taken))
 
 loop-less-2 : tie.Need-loop-less-2 Inv-loop μ-loop
-loop-less-2 c = omega (arith, c .before .before .before .before .loop .inv .0, c .before .before .before .loop-test .taken)
+loop-less-2 c = omega (arith, c .before .before .before .loop .inv .0, c .before .before .loop-test .taken)
 
 loop-again-2 : tie.Need-loop-again-2 Inv-loop μ-loop
-loop-again-2 c = let i = c .before .before .before .before .loop .inv in (omega (arith, i .0, c .before .before .before .loop-test .taken), omega (arith, i .0, i .1), i .2)
+loop-again-2 c = let i = c .before .before .before .loop .inv in (omega (arith, i .0, c .before .before .loop-test .taken), omega (arith, i .0, i .1), i .2)
 
 returns : tie.Need-returns Inv-loop μ-loop
 returns c = let i = c .before .loop .inv in (omega (arith, i .0, i .1), i .2)
@@ -82,7 +66,6 @@ surely-stopping-spec =
     sub-loop
     sub-middle
     add-middle
-    at-speed-requires
     stops-within-requires
     loop-less
     loop-again

@@ -1,0 +1,72 @@
+-- One plan serves every speed: its stop from a speed is the definition's, and a slower train stops no further.
+use mathlib.Core.Path.{_≡_, refl, _∙_}
+use Prim.Native.Nat.{ℕ, _+_, _*_, _≤_}
+use native.Mathlib.Omega.{arith}
+use native.Mathlib.Nat.{mul-le-mul-left}
+use Rattle.train.specs.declared.Coefficients.{Coefficients}
+use Rattle.train.specs.Units.{kmh}
+use Rattle.motion.specs.declared.Overrun.{Overrun}
+use Rattle.motion.specs.declared.Plan.{Plan}
+use Rattle.motion.specs.Motion.{dp}
+use Rattle.motion.specs.Plan.{IsPlan}
+use Rattle.motion.proofs.Planned.{planOf-is}
+use Rattle.planning.specs.Fair.{Small, Enough}
+use Rattle.planning.proofs.Whole.{by-rise}
+use Rattle.stopping.specs.Stop.{Turns, placeUp}
+use Rattle.stopping.proofs.Rolling.{turns}
+use Rattle.stopping.proofs.Slower.{stops-sooner}
+use Rattle.ramp.specs.declared.Stop.{Stop}
+use Rattle.ramp.specs.Answer.{overrun, distance}
+use Rattle.ramp.specs.Begin.{Stops, fromSpeed}
+use Rattle.ramp.proofs.Kept.{distance-is}
+
+pub from-small : (m : Plan) (v : ℕ) → Small m → v ≤ 100 → Small (fromSpeed m v)
+from-small m v s h =
+    let c = s .counted in
+    record {
+      start = by-rise (50000000000 * v) 5000000000000 (m .tr) (omega arith);
+      up = s .up;
+      down = s .down;
+      brake = s .brake;
+      tm = s .tm;
+      some = s .some;
+      tr = s .tr;
+      counted = record {
+        speed = 50000000000 * v;
+        rise = c .rise;
+        fall = c .fall;
+        power = c .power;
+        start-is = refl;
+        up-is = c .up-is;
+        down-is = c .down-is;
+        brake-is = c .brake-is;
+      };
+    }
+
+module _ (k : Coefficients) (o : Overrun) (m : Plan) (is : IsPlan k o m) (s : Small m) where
+  abbrev at : ℕ → Overrun
+  at v = overrun (o .weight) (o .gradient) (kmh v) (o .tm) (o .tr)
+
+  pub from-plan : (v : ℕ) → IsPlan k (at v) (fromSpeed m v)
+  unfolding dp
+  from-plan v = record {
+    start = rw (is .tr) (planOf-is k (at v) (omega (arith, s .some, is .tr)) .start);
+    slope = is .slope;
+    brake = is .brake;
+    tm = is .tm;
+    tr = is .tr;
+  }
+
+  reaches : (v t : ℕ) → v ≤ 100 → Turns (fromSpeed m v) t → placeUp (fromSpeed m v) t + 1 ≡ distance k (at v)
+  reaches v t b h = distance-is k (at v) (fromSpeed m v) (from-plan v) (from-small m v s b) t h
+
+  pub from-distance : (v : ℕ) (r : Stop) → v ≤ 100 → Stops (fromSpeed m v) r → r .distance .0 ≡ distance k (at v)
+  from-distance v r b h = h .distance ∙ reaches v (r .moment) b (h .turns)
+
+  pub slower : Enough m → (v w : ℕ) → v ≤ w → w ≤ 100 → distance k (at v) ≤ distance k (at w)
+  slower e v w h b =
+      let a : v ≤ 100 = omega arith in
+      let (t, p) = turns (fromSpeed m v) (from-small m v s a) e in
+      let (t′, q) = turns (fromSpeed m w) (from-small m w s b) e in
+      let n = stops-sooner m _ _ (by-rise _ _ (m .tr) (mul-le-mul-left 50000000000 h)) t t′ p q (s .some) in
+      omega (arith, reaches v t a p, reaches w t′ b q, n)
