@@ -1,6 +1,7 @@
 //! The approach query: the plain one's check, one pass along the stretches for each way, and climbs that ask the exact test only
 //! above a speed that is sure.
 use super::{ramp, step};
+use crate::plain;
 use crate::plain::query::{answer_by, Plan, FASTEST_CREEP};
 use crate::plain::sheet::{split, Entry};
 use crate::plain::step::{fits, Course};
@@ -45,7 +46,8 @@ impl Plan for Own {
     /// A stop is surely within the overlap where a faster one is.
     #[inline(always)]
     fn release(train: Train, tm: u32, tr: u32, gradient: i32, overlap: u32) -> u32 {
-        let stops = |v| ramp::stop(train.braked_weight, gradient, v, tm, tr).distance <= overlap;
+        let m = plain::ramp::plan(train.braked_weight, gradient, 1, tm, tr);
+        let stops = |v| ramp::stop_from(&m, v).distance <= overlap;
         let end = train.top_speed.min(FASTEST_CREEP);
         let (mut sure, mut high) = (0, end + 1);
         while high - sure > 1 {

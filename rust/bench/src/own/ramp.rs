@@ -32,13 +32,18 @@ fn place(m: &Plan, t: u64) -> u32 {
 }
 
 #[inline(always)]
-pub(crate) fn stop(braked_weight: u32, gradient: i32, v: u32, tm: u32, tr: u32) -> Stop {
-    let m = plain::plan(braked_weight, gradient, v, tm, tr);
-    let t = moment(&m);
-    Stop { refusal: 0, distance: place(&m, t) + 1, moment: t as u32 }
+fn stop(m: &Plan) -> Stop {
+    let t = moment(m);
+    Stop { refusal: 0, distance: place(m, t) + 1, moment: t as u32 }
+}
+
+/// The stop of the same plan from another speed.
+#[inline(always)]
+pub(crate) fn stop_from(m: &Plan, v: u32) -> Stop {
+    stop(&Plan { start: 50_000_000_000 * v as u64 * m.tr, ..*m })
 }
 
 #[inline(never)]
 pub extern "C" fn ramp(braked_weight: u32, gradient: i32, v: u32, tm: u32, tr: u32) -> Stop {
-    stop(braked_weight, gradient, v, tm, tr)
+    stop(&plain::plan(braked_weight, gradient, v, tm, tr))
 }
