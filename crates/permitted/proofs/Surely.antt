@@ -1,9 +1,6 @@
 -- What the bounds show of several speeds at once: the first of them is the weakest.
-use mathlib.Core.Path.{_≡_}
-use mathlib.Core.Bool.{true}
-use Prim.Native.Nat.{ℕ, _+_, _*_, _^_, _≤_, _<_}
-use native.Mathlib.Nat.{le-trans, lt-of-not-le}
-use native.Mathlib.Decide.{decLe}
+use Prim.Native.Nat.{ℕ, _+_, _*_, _^_, _≤_}
+use native.Mathlib.Nat.{le-trans}
 use native.Mathlib.Omega.{arith}
 use borrow.Author.Tests.{le-leb}
 use Rattle.train.specs.declared.Kmh.{Kmh}
@@ -14,7 +11,8 @@ use Rattle.braking.proofs.Stronger.{stronger}
 use Rattle.curve.specs.declared.Curve.the-variants.{P}
 use Rattle.curve.specs.Plan.{aOf, sumAt}
 use Rattle.quick.specs.Bounds.{NoWeaker}
-use Rattle.permitted.specs.Find.{fitsBy, Climbing, Sure}
+use Rattle.climb.specs.Sure.{Sure}
+use Rattle.permitted.specs.Find.{fitsBy, Climbing}
 
 module _ (c : Course) (v0 top : Kmh) (is : Climbing c v0 top) where
   pub near : (v : ℕ) → v0 .0 ≤ v → v ≤ top .0 → Near v (v0 .0)
@@ -31,18 +29,7 @@ module _ (c : Course) (v0 top : Kmh) (is : Climbing c v0 top) where
         stronger = stronger c u v (v0 .0) (is .small) (is .steady) n m i e (is .enough v (le-trans h i));
       }
 
-  -- what the test of the speeds from u to w says
-  pub each-fits : (u w d : ℕ) → v0 .0 ≤ u → w ≤ top .0 → ((v : ℕ) → v ≤ w → NoWeaker c u v (v0 .0) → sumAt P c v (v0 .0) ≤ 81 * 10 ^ 20 * aOf c v (v0 .0) * (1000 * d)) → (v : ℕ) → u ≤ v → v ≤ w → fitsBy c (v0 .0) d v ≡ true
+  -- what the test of the speeds after u, up to w, says
+  pub sure-of : (u w d : ℕ) → v0 .0 ≤ u → w ≤ top .0 → ((v : ℕ) → v ≤ w → NoWeaker c (u + 1) v (v0 .0) → sumAt P c v (v0 .0) ≤ 81 * 10 ^ 20 * aOf c v (v0 .0) * (1000 * d)) → Sure (fitsBy c (v0 .0) d) u w
   unfolding fitsBy
-  each-fits u w d h i f v j k = le-leb _ _ (f v k (no-weaker u v h j (le-trans k i)))
-
-module _ (c : Course) (v0 d : ℕ) where
-  pub sure-of-none : Sure c v0 d v0
-  sure-of-none = record { each = λ v h i. absurd (let j : ⊥ = omega arith in j) }
-
-  pub sure-of-more : (low high : ℕ) → Sure c v0 d low → ((v : ℕ) → low < v → v ≤ high → fitsBy c v0 d v ≡ true) → Sure c v0 d high
-  sure-of-more low high s f = record { each = λ v h i. go v h i (decLe v low) }
-    where
-      go : (v : ℕ) → v0 < v → v ≤ high → Dec (v ≤ low) → fitsBy c v0 d v ≡ true
-      go v h i (yes l) = s .each v h l
-      go v h i (no l) = f v (lt-of-not-le l) i
+  sure-of u w d h i f = record { each = λ v j k. le-leb _ _ (f v k (no-weaker (u + 1) v (omega arith) (omega arith) (le-trans k i))) }

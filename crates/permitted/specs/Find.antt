@@ -1,7 +1,7 @@
 -- What the code asks for, tests and finds; nobody has to believe this.
 use mathlib.Core.Path.{_≡_}
 use mathlib.Core.Bool.{Bool, true, false}
-use Prim.Native.Nat.{ℕ, _*_, _-_, _^_, _≤_, _<_}
+use Prim.Native.Nat.{ℕ, _*_, _-_, _^_, _≤_}
 use lib.Dec.{leb}
 use Rattle.train.specs.declared.Kmh.{Kmh}
 use Rattle.train.specs.declared.Metre.{Metre}
@@ -34,10 +34,6 @@ pub record Climbing (c : Course) (v0 top : Kmh) : Type 0 where
   pub enough : (v : ℕ) → v0 .0 ≤ v → Enough c v (v0 .0)
   pub ahead : v0 .0 ≤ top .0
   pub high : top .0 ≤ 330
-
--- every speed above v0 up to this one fits
-pub record Sure (c : Course) (v0 d sure : ℕ) : Type 0 where
-  pub each : (v : ℕ) → v0 < v → v ≤ sure → fitsBy c v0 d v ≡ true
 
 module _ (k : Coefficients) (t : Train) (g : Gradient) (v0 : Kmh) (d : Metre) where
   abbrev pub Permits : Permitted → Type 0

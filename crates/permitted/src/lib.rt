@@ -8,7 +8,8 @@ ghost use Rattle.train.specs.Gradient.{Moderate};
 ghost use Rattle.train.specs.Units.{kmh};
 ghost use Rattle.braking.specs.Plan.{Small, Near, Enough};
 ghost use Rattle.climb.specs.Climb.{climb};
-ghost use Rattle.permitted.specs.Find.{fitsBy, Steady, Climbing, Sure, Permits};
+ghost use Rattle.climb.specs.Sure.{Sure};
+ghost use Rattle.permitted.specs.Find.{fitsBy, Steady, Climbing, Permits};
 use braking::Course;
 use curve::Curve;
 use train::Coefficients;
@@ -35,7 +36,7 @@ fn fits(c: Course, v: Kmh, v0: Kmh, d: Metre) -> bool
 // Whether each of the next speeds after low surely fits.
 fn next_sure(c: Course, v0: Kmh, d: Metre, low: u32, stride: u32, end: u32) -> bool
     requires { ⌜ Climbing c v0 (kmh end) × (v0 .0 ≤ low) × (low ≤ end) × (0 < stride) ⌝ }
-    ensures { λ r. ⌜ (r ≡ true → (low + stride ≤ end) × ((v : ℕ) → low < v → v ≤ low + stride → fitsBy c (v0 .0) (d .0) v ≡ true)) ⌝ }
+    ensures { λ r. ⌜ (r ≡ true → Sure (fitsBy c (v0 .0) (d .0)) low (low + stride) × (low + stride ≤ end)) ⌝ }
 {
     if stride > end - low {
         return false;
@@ -48,7 +49,7 @@ fn next_sure(c: Course, v0: Kmh, d: Metre, low: u32, stride: u32, end: u32) -> b
 // A speed up to which the climb need not ask: the bounds show many speeds at once, ever fewer where the distance gets short.
 fn surely_fitting(c: Course, v0: Kmh, d: Metre, top: Kmh) -> Kmh
     requires { ⌜ Climbing c v0 top ⌝ }
-    ensures { λ r. ⌜ (r .0 ≤ top .0) × Sure c (v0 .0) (d .0) (r .0) ⌝ }
+    ensures { λ r. ⌜ Sure (fitsBy c (v0 .0) (d .0)) (v0 .0) (r .0) × (r .0 ≤ top .0) ⌝ }
 {
     let last = top.0;
     let mut low = v0.0;

@@ -7,8 +7,9 @@ ghost use Rattle.train.specs.Refusal.{firstOf};
 ghost use Rattle.planning.specs.Fair.{Small, Enough};
 ghost use Rattle.ramp.specs.Answer.{inputs};
 ghost use Rattle.climb.specs.Climb.{climb};
+ghost use Rattle.climb.specs.Sure.{Sure};
 ghost use Rattle.release.specs.Release.{atSpeed, stopsWithin};
-ghost use Rattle.release.specs.Find.{Releases, Each, Sure};
+ghost use Rattle.release.specs.Find.{Releases, Each};
 use motion::Overrun;
 use motion::Plan;
 use ramp::Begun;
@@ -59,7 +60,7 @@ fn highest(top: Kmh) -> Kmh
 // Between low, which is 0 or fits, and high, which does not fit or is past the last, halved until they are neighbours.
 fn surely_stopping(m: Plan, overlap: Metre, last: Kmh) -> Kmh
     requires { ⌜ Small m × Enough m × (last .0 ≤ 100) ⌝ }
-    ensures { λ r. ⌜ (r .0 ≤ last .0) × Each m (λ k o. Sure k o overlap (r .0)) ⌝ }
+    ensures { λ r. ⌜ Each m (λ k o. Sure (stopsWithin k o overlap) 0 (r .0)) × (r .0 ≤ last .0) ⌝ }
 {
     let mut low: u32 = 0;
     let mut high: u32 = last.0 + 1;

@@ -1,5 +1,4 @@
 -- `last_fitting`: the climb from the speed reached is the whole climb. Up to the sure speed each fits; above it the test says.
-use borrow.Author.Needs.{needs}
 use borrow.Author.Tests.{not-true, not-false}
 use mathlib.Core.Path.{sym, _∙_}
 use Prim.Native.Nat.{_-_}
@@ -47,7 +46,7 @@ loop-less-2 c = omega (arith, c .before .if1 .left)
 loop-again-2 : tie.Need-loop-again-2 Inv-loop μ-loop
 loop-again-2 c =
     let l = c .before .before in
-    reaches-next _ _ _ _ (l .loop .inv) (c .before .if1 .left) (l .before .surely-fitting .ensures .1 .each _ (omega (arith, l .loop .inv .past)) (c .if2 .left))
+    reaches-next _ _ _ _ (l .loop .inv) (c .before .if1 .left) (l .before .surely-fitting .ensures .0 .each _ (omega (arith, l .loop .inv .past)) (c .if2 .left))
 
 returns : tie.Need-returns Inv-loop μ-loop
 returns c = ends-there _ _ _ _ (c .before .loop .inv) (c .if1 .taken)

@@ -3,7 +3,7 @@ use mathlib.Core.Bool.{false≢true}
 use Prim.Native.Nat.{_+_, _≤_}
 use borrow.Author.Needs.{needs}
 use native.Mathlib.Omega.{arith}
-use Rattle.permitted.proofs.Surely.{near, each-fits}
+use Rattle.permitted.proofs.Surely.{near, sure-of}
 use Rattle.permitted.proofs.next_sure.Statement.{statement}
 use Rattle.permitted.proofs.next_sure.Tie as tie
 
@@ -12,9 +12,8 @@ returns-2 c = λ e.
     let o = c .before in
     let s = o .before in
     let a = s .args in
-    let h = s .pre .1 in
     let j : a .low + a .stride ≤ a .end = omega (arith, o .if1 .left, s .pre .2) in
-    (j, λ v k l. each-fits _ _ _ (s .pre .0) (a .low + 1) (a .low + a .stride) (a .d .0) (omega arith) j (c .surely-fit .ensures e) v (omega arith) l)
+    (sure-of _ _ _ (s .pre .0) (a .low) (a .low + a .stride) (a .d .0) (s .pre .1) j (c .surely-fit .ensures e), j)
 
 sub-if1 : tie.Need-sub-if1
 sub-if1 c = search needs

@@ -1,5 +1,4 @@
 -- `bounds_at`: the bounds hold, and each product is a word long.
-use mathlib.Core.Path.{_≡_}
 use Prim.Native.Nat.{_*_, _-_, _≤_}
 use borrow.Author.Needs.{needs}
 use native.Mathlib.Nat.{le-trans}

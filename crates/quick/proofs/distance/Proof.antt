@@ -1,6 +1,6 @@
 -- `distance`: what the bounds settle is the distance, and so is what the wide numbers give.
-use mathlib.Core.Path.{_≡_, _∙_}
-use Prim.Native.Nat.{_+_, _*_, _-_, _/_, _≤_}
+use mathlib.Core.Path.{_∙_}
+use Prim.Native.Nat.{_+_, _≤_}
 use borrow.Author.Needs.{needs}
 use native.Mathlib.Omega.{arith}
 use Rattle.braking.specs.Plan.{v9, sOf, betaOf}

@@ -1,5 +1,4 @@
 -- `surely_fit`: the products are a word long, and where the room is enough for the last speed, each fits.
-use mathlib.Core.Path.{_≡_}
 use mathlib.Core.Bool.{false≢true}
 use Prim.Native.Nat.{_*_, _-_, _/_, _≤_}
 use borrow.Author.Needs.{needs}

@@ -18,6 +18,19 @@ Inv-loop m overlap end sure v₀ v = Each m (λ k o. Reached (stopsWithin k o ov
 abbrev μ-loop : tie.MeasureT-loop
 μ-loop m overlap end sure v₀ v = end - v
 
+-- the definition's end is the lower of 100 and the top speed
+whole : (c : tie.After-highest Inv-loop μ-loop) (fits : ℕ → Bool) (n : ℕ) → n ≡ climb fits 0 (c .highest .result .0 - 0) → n ≡ climb fits 0 (min 100 (c .before .args .top .0))
+whole c fits n e = e ∙ ap (climb fits 0) (omega (arith, c .highest .ensures))
+
+returns : tie.Need-returns Inv-loop μ-loop
+returns c k o is = let l = c .before in whole (l .before .before) _ _ (ends-there _ _ _ _ (l .loop .inv k o is) (c .if1 .taken))
+
+returns-2 : tie.Need-returns-2 Inv-loop μ-loop
+returns-2 c k o is =
+    let i = c .before .before .before in
+    let l = i .before in
+    whole (l .before .before) _ _ (stops-there _ _ _ _ (l .loop .inv k o is) (i .if1 .left) (sym (c .before .stops-within .ensures k o is) ∙ not-true _ (c .if3 .taken)))
+
 highest-requires : tie.Need-highest-requires Inv-loop μ-loop
 highest-requires c κs = search needs
 
@@ -50,20 +63,7 @@ loop-less-2 c = omega (arith, c .before .if1 .left)
 loop-again-2 : tie.Need-loop-again-2 Inv-loop μ-loop
 loop-again-2 c k o is =
     let l = c .before .before in
-    reaches-next _ _ _ _ (l .loop .inv k o is) (c .before .if1 .left) (l .before .surely-stopping .ensures .1 k o is .each _ (omega arith) (c .if2 .left))
-
--- the definition's end is the lower of 100 and the top speed
-whole : (c : tie.After-highest Inv-loop μ-loop) (fits : ℕ → Bool) (n : ℕ) → n ≡ climb fits 0 (c .highest .result .0 - 0) → n ≡ climb fits 0 (min 100 (c .before .args .top .0))
-whole c fits n e = e ∙ ap (climb fits 0) (omega (arith, c .highest .ensures))
-
-returns : tie.Need-returns Inv-loop μ-loop
-returns c k o is = let l = c .before in whole (l .before .before) _ _ (ends-there _ _ _ _ (l .loop .inv k o is) (c .if1 .taken))
-
-returns-2 : tie.Need-returns-2 Inv-loop μ-loop
-returns-2 c k o is =
-    let i = c .before .before .before in
-    let l = i .before in
-    whole (l .before .before) _ _ (stops-there _ _ _ _ (l .loop .inv k o is) (i .if1 .left) (sym (c .before .stops-within .ensures k o is) ∙ not-true _ (c .if3 .taken)))
+    reaches-next _ _ _ _ (l .loop .inv k o is) (c .before .if1 .left) (l .before .surely-stopping .ensures .0 k o is .each _ (omega arith) (c .if2 .left))
 
 pub last-stopping-spec : {M : Type 1} → statement M
 last-stopping-spec =

@@ -2,13 +2,16 @@
 use mathlib.Core.Path.{sym, _∙_}
 use Prim.Native.Nat.{_-_, _≤_, _<_}
 use native.Mathlib.Omega.{arith}
-use Rattle.release.specs.Find.{Each, Sure}
-use Rattle.release.proofs.Surely.{sure-of-none, sure-of}
+use Rattle.climb.specs.Sure.{Sure}
+use Rattle.climb.proofs.Surely.{sure-of-none}
+use Rattle.release.specs.Release.{stopsWithin}
+use Rattle.release.specs.Find.{Each}
+use Rattle.release.proofs.Surely.{sure-of}
 use Rattle.release.proofs.surely_stopping.Statement.{statement}
 use Rattle.release.proofs.surely_stopping.Tie as tie
 
 abbrev Inv-loop : tie.InvT-loop
-Inv-loop m overlap low₀ high₀ low high = (low < high) × (high ≤ high₀) × Each m (λ k o. Sure k o overlap low)
+Inv-loop m overlap low₀ high₀ low high = (low < high) × (high ≤ high₀) × Each m (λ k o. Sure (stopsWithin k o overlap) 0 low)
 
 abbrev μ-loop : tie.MeasureT-loop
 μ-loop m overlap low₀ high₀ low high = high - low
@@ -17,7 +20,7 @@ add-high : tie.Need-add-high Inv-loop μ-loop
 add-high c = omega (arith, c .before .pre .2)
 
 loop-holds : tie.Need-loop-holds Inv-loop μ-loop
-loop-holds c = let a = c .before .args in (omega arith, omega arith, sure-of-none (a .m) (a .overlap))
+loop-holds c = (omega arith, omega arith, λ k o is. sure-of-none _ 0)
 
 sub-loop : tie.Need-sub-loop Inv-loop μ-loop
 sub-loop c = omega (arith, c .loop .inv .0)
@@ -53,7 +56,7 @@ loop-again-2 : tie.Need-loop-again-2 Inv-loop μ-loop
 loop-again-2 c = let i = c .before .before .before .loop .inv in (omega (arith, i .0, c .before .before .loop-test .taken), omega (arith, i .0, i .1), i .2)
 
 returns : tie.Need-returns Inv-loop μ-loop
-returns c = let i = c .before .loop .inv in (omega (arith, i .0, i .1), i .2)
+returns c = let i = c .before .loop .inv in (i .2, omega (arith, i .0, i .1))
 
 pub surely-stopping-spec : {M : Type 1} → statement M
 surely-stopping-spec =

@@ -1,5 +1,4 @@
 -- `place_up`: by one word or by wide numbers.
-use borrow.Author.Needs.{needs}
 use Rattle.stopping.proofs.place.place_up.Statement.{statement}
 use Rattle.stopping.proofs.place.place_up.Tie as tie
 
