@@ -2,7 +2,7 @@
 // Document 01, "Approach".
 ghost use mathlib.Core.Path.{_≡_};
 ghost use mathlib.Core.Bool.{true};
-ghost use Prim.Native.Nat.{ℕ, _+_, _-_, _≤_, _<_};
+ghost use Prim.Native.Nat.{_+_, _-_, _≤_, _<_};
 ghost use Rattle.train.specs.Coefficients.{Within};
 ghost use Rattle.train.specs.Gradient.{Moderate};
 ghost use Rattle.train.specs.Units.{kmh};
