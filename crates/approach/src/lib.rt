@@ -3,29 +3,29 @@ ghost use mathlib.Core.Path.{_≡_};
 ghost use Rattle.train.specs.Units.{kmh};
 ghost use Rattle.train.specs.Coefficients.{first};
 ghost use Rattle.train.specs.Gradient.{gradientOf};
-ghost use Rattle.curve.specs.declared.Curve.the-variants.{Ebi, Sbi, W, P};
-ghost use Rattle.row.specs.Answer.{RowAnswers};
+ghost use Rattle.step_curve.specs.declared.Curve.the-variants.{Ebi, Sbi, W, P};
+ghost use Rattle.step_row.specs.Answer.{RowAnswers};
 ghost use Rattle.step.specs.Answer.{StepAnswers};
 ghost use Rattle.ramp.specs.Answer.{overrun, RampAnswers};
 ghost use Rattle.ceilings.specs.Ceilings.{limitsOf};
 ghost use Rattle.ceilings.specs.Paper.{AsPrinted};
 ghost use Rattle.sheet.specs.Fields.{fourLists};
-ghost use Rattle.lookup.specs.Answer.{stretchOf, signalOf};
-ghost use Rattle.reading.specs.Answer.{moveOf, Again};
-ghost use Rattle.writing.specs.Answer.{Writes};
+ghost use Rattle.sheet_lookup.specs.Answer.{stretchOf, signalOf};
+ghost use Rattle.sheet_mark.specs.Answer.{moveOf, Again};
+ghost use Rattle.sheet_writer.specs.Answer.{Writes};
 ghost use Rattle.query.specs.Answer.{QueryAnswers};
-ghost use Rattle.entered.specs.Entered.{trainOf};
+ghost use Rattle.approach_train.specs.Entered.{trainOf};
+use approach_train::Entered;
+use approach_train::train_of;
 use ceilings::Limits;
-use curve::Curve;
-use entered::Entered;
-use entered::train_of;
-use lookup::Signal;
-use lookup::Stretch;
 use query::Answer;
 use ramp::Stop;
-use reading::mark::Mark;
-use reading::mark::Move;
+use sheet_lookup::Signal;
+use sheet_lookup::Stretch;
+use sheet_mark::Mark;
+use sheet_mark::Move;
 use step::Distances;
+use step_curve::Curve;
 use train::Kmh;
 use train::Metre;
 use train::Written;
@@ -41,7 +41,7 @@ pub extern "C" fn approach_step(train: Entered, v: u32, v0: u32, gradient: i32) 
 fn row_of(curve: Curve, train: Entered, v0: u32, gradient: i32, row: &mut [u32]) -> Written
     ensures { λ r. ⌜ RowAnswers first (trainOf train) (gradientOf gradient) curve (kmh v0) (now (row .entry)) r (now (row .exit)) ⌝ }
 {
-    row::row(curve, train_of(train), Kmh(v0), gradient, row)
+    step_row::row(curve, train_of(train), Kmh(v0), gradient, row)
 }
 
 #[no_mangle]
@@ -107,21 +107,21 @@ pub extern "C" fn approach_sheet_write(
 ) -> Written
     ensures { λ r. ⌜ Writes (fourLists (now (starts .entry)) (now (gradients .entry)) (now (places .entry)) (now (overlaps .entry)) «line_end») (now (sheet .entry)) r (now (sheet .exit)) ⌝ }
 {
-    writing::write(starts, gradients, places, overlaps, Metre(line_end), sheet)
+    sheet_writer::write(starts, gradients, places, overlaps, Metre(line_end), sheet)
 }
 
 #[no_mangle]
 pub extern "C" fn approach_sheet_stretch(sheet: &[u8], number: u32) -> Stretch
     ensures { λ r. ⌜ (r ≡ stretchOf (now (sheet .entry)) number) × Again (now (sheet .entry)) (r .refusal) ⌝ }
 {
-    lookup::read_stretch(sheet, number)
+    sheet_lookup::read_stretch(sheet, number)
 }
 
 #[no_mangle]
 pub extern "C" fn approach_sheet_signal(sheet: &[u8], number: u32) -> Signal
     ensures { λ r. ⌜ (r ≡ signalOf (now (sheet .entry)) number) × Again (now (sheet .entry)) (r .refusal) ⌝ }
 {
-    lookup::read_signal(sheet, number)
+    sheet_lookup::read_signal(sheet, number)
 }
 
 #[no_mangle]

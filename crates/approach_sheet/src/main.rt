@@ -74,7 +74,7 @@ fn print_line(signal: u32, a: Answer) {
 fn print_signals(s: &[u8])
     requires { ⌜ accepted (now s) ≡ true ⌝ }
 {
-    let count = fields::signals(s);
+    let count = sheet_fields::signals(s);
     let mut k: u32 = 0;
     while k < count {
         print_line(k, answer(s, k));

@@ -12,13 +12,13 @@ use Rattle.train.specs.declared.Train.{Train}
 use Rattle.train.specs.Units.{kmh, metres, speed}
 use Rattle.train.specs.Coefficients.{first}
 use Rattle.train.specs.Gradient.{gradientOf}
-use Rattle.delay.specs.Delay.{passengerDelay, freightDelay, delay, tf}
-use Rattle.slope.specs.Slope.{factor, di, dr}
-use Rattle.curve.specs.declared.Curve.{Curve}
-use Rattle.curve.specs.declared.Curve.the-variants.{Ebi, Sbi, W, P}
-use Rattle.braking.specs.Braking.{T, K0, KC, dp, Vβ, strong}
-use Rattle.curve.specs.Step.{EBI, SBI, distance}
-use Rattle.curve.specs.Step as step
+use Rattle.train_delay.specs.Delay.{passengerDelay, freightDelay, delay, tf}
+use Rattle.train_slope.specs.Slope.{factor, di, dr}
+use Rattle.step_curve.specs.declared.Curve.{Curve}
+use Rattle.step_curve.specs.declared.Curve.the-variants.{Ebi, Sbi, W, P}
+use Rattle.step_braking.specs.Braking.{T, K0, KC, dp, Vβ, strong}
+use Rattle.step_curve.specs.Step.{EBI, SBI, distance}
+use Rattle.step_curve.specs.Step as step
 use Rattle.step.specs.declared.Distances.{Distances}
 use Rattle.step.specs.Answer.{stepOf}
 use Rattle.ceilings.specs.Ceilings.{grownTo, ceilingOf, limitsOf}

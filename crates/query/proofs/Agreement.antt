@@ -16,9 +16,9 @@ use Rattle.train.proofs.Refusals.{none-holds}
 use Rattle.ramp.specs.Answer.{timeRefusals}
 use Rattle.sheet.specs.Sheet as sheet
 use Rattle.sheet.specs.Sheet.{lineOf}
-use Rattle.way.specs.declared.Way.{Way}
-use Rattle.way.specs.Way.{wayRefusals, Agree}
-use Rattle.way.proofs.Ways.{same-way}
+use Rattle.query_way.specs.declared.Way.{Way}
+use Rattle.query_way.specs.Way.{wayRefusals, Agree}
+use Rattle.query_way.proofs.Ways.{same-way}
 use Rattle.query.specs.declared.Answer.{Answer}
 use Rattle.query.specs.Answer.{refused, brakeRefusals, accepted, inputs, wayTo, answerOf, QueryAnswers}
 use Rattle.query.proofs.Answers.{inputs-rising, by-inputs}

@@ -15,19 +15,19 @@ use Rattle.train.specs.Units.{kmh}
 use Rattle.train.specs.Coefficients.{Within}
 use Rattle.train.specs.Refusal.{firstOf, trainRefusals}
 use Rattle.train.proofs.Refusals.{Rising, rising-before, train-rising, first-after, first-before}
-use Rattle.braking.specs.Braking.{strong}
+use Rattle.step_braking.specs.Braking.{strong}
 use Rattle.ceilings.specs.Ceilings.{limitsOf}
 use Rattle.ceilings.proofs.Agrees.{as-printed}
 use Rattle.ramp.specs.Answer.{timeRefusals}
-use Rattle.way.specs.declared.Way.{Way}
-use Rattle.way.specs.declared.Found.{Found}
-use Rattle.way.specs.declared.Found.the-variants.{Refused, Ready}
-use Rattle.way.specs.Way.{wayRefusals}
-use Rattle.way.specs.Find.{Finds}
-use Rattle.permitted.specs.declared.Permitted.the-variants.{Weak, Release, Curve}
-use Rattle.release.specs.Release.{releaseOf, weakPast}
-use Rattle.permitted.specs.Permitted.{onCurve, onRelease, permittedOf, markOf}
-use Rattle.permitted.specs.Find.{Steady, Permits}
+use Rattle.query_way.specs.declared.Way.{Way}
+use Rattle.query_way.specs.declared.Found.{Found}
+use Rattle.query_way.specs.declared.Found.the-variants.{Refused, Ready}
+use Rattle.query_way.specs.Way.{wayRefusals}
+use Rattle.query_way.specs.Find.{Finds}
+use Rattle.query_permitted.specs.declared.Permitted.the-variants.{Weak, Release, Curve}
+use Rattle.query_release.specs.Release.{releaseOf, weakPast}
+use Rattle.query_permitted.specs.Permitted.{onCurve, onRelease, permittedOf, markOf}
+use Rattle.query_permitted.specs.Find.{Steady, Permits}
 use Rattle.query.specs.declared.Answer.{Answer}
 use Rattle.query.specs.Demand.{pastAt}
 use Rattle.query.specs.Answer.{refused, answered, release, brakeRefusals, accepted, inputs, wayTo, queryRefusals, answerOf, QueryAnswers}

@@ -17,18 +17,18 @@ use Rattle.train.specs.Units.{kmh}
 use Rattle.train.specs.Coefficients.{Within}
 use Rattle.train.specs.Refusal.{firstOf, weightRefusals, lengthAndTopRefusals, gradientRefusals}
 use Rattle.train.proofs.Refusals.{weight-rising, first-after, none-before}
-use Rattle.motion.specs.declared.Overrun.{Overrun}
-use Rattle.motion.specs.Motion.{placeAt}
-use Rattle.motion.proofs.Planned.{planOf, planOf-is}
-use Rattle.motion.proofs.Phases.{place-is}
+use Rattle.ramp_motion.specs.declared.Overrun.{Overrun}
+use Rattle.ramp_motion.specs.Motion.{placeAt}
+use Rattle.ramp_motion.proofs.Planned.{planOf, planOf-is}
+use Rattle.ramp_motion.proofs.Phases.{place-is}
 use Rattle.ramp.specs.Answer as ramp
 use Rattle.ramp.specs.Answer.{leeway, Promise, distance, moment, speedRefusals, timeRefusals}
 use Rattle.ramp.proofs.Answers.{inputs-fit}
 use Rattle.ramp.proofs.Always.{always}
-use Rattle.way.specs.declared.Way.{Way}
-use Rattle.release.specs.Release.{stopsWithin, releaseOf, weakPast}
-use Rattle.climb.proofs.Climbing.{Highest, highest}
-use Rattle.release.proofs.Past.{any-speed, no-overlap, release-is, accepted-past}
+use Rattle.query_way.specs.declared.Way.{Way}
+use Rattle.query_release.specs.Release.{stopsWithin, releaseOf, weakPast}
+use Rattle.query_climb.proofs.Climbing.{Highest, highest}
+use Rattle.query_release.proofs.Past.{any-speed, no-overlap, release-is, accepted-past}
 use Rattle.query.specs.Demand.{pastAt, place, Safe, Tight}
 use Rattle.query.specs.Begin.{Fit}
 

@@ -13,15 +13,15 @@ use Rattle.train.specs.declared.Train.{Train}
 use Rattle.train.specs.declared.Coefficients.{Coefficients}
 use Rattle.train.specs.Units.{kmh}
 use Rattle.train.specs.Coefficients.{Within}
-use Rattle.braking.specs.declared.Course.{Course}
-use Rattle.braking.specs.Plan.{Enough}
-use Rattle.braking.specs.Agreement.{IsCourse}
-use Rattle.way.specs.declared.Way.{Way}
-use Rattle.climb.specs.Climb.{climb}
-use Rattle.permitted.specs.Permitted.{onCurve, onRelease, fits, permittedOf, markOf}
-use Rattle.permitted.specs.Find.{Steady}
-use Rattle.climb.proofs.Climbing.{highest}
-use Rattle.permitted.proofs.Fit as fit
+use Rattle.step_braking.specs.declared.Course.{Course}
+use Rattle.step_braking.specs.Plan.{Enough}
+use Rattle.step_braking.specs.Agreement.{IsCourse}
+use Rattle.query_way.specs.declared.Way.{Way}
+use Rattle.query_climb.specs.Climb.{climb}
+use Rattle.query_permitted.specs.Permitted.{onCurve, onRelease, fits, permittedOf, markOf}
+use Rattle.query_permitted.specs.Find.{Steady}
+use Rattle.query_climb.proofs.Climbing.{highest}
+use Rattle.query_permitted.proofs.Fit as fit
 use Rattle.query.specs.Demand.{toSignal, exactP, Marked}
 
 module _ (k : Coefficients) (within : Within k) (steady : Steady k) (t : Train) (tm tr : ℕ) (w : Way) (R : ℕ) (c : Course) (is : IsCourse k t (w .ahead) c) (enough : Enough c R R) (low : R ≤ t .top .0) where

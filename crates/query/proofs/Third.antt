@@ -11,13 +11,13 @@ use Rattle.train.specs.Units.{kmh}
 use Rattle.train.specs.Coefficients.{Within}
 use Rattle.train.specs.Refusal.{trainRefusals}
 use Rattle.train.proofs.Refusals.{train-rising, none-holds}
-use Rattle.braking.specs.Braking.{strong}
-use Rattle.braking.proofs.Exact.{strong-is}
-use Rattle.braking.proofs.Coursed.{course}
-use Rattle.way.specs.declared.Way.{Way}
-use Rattle.release.specs.Release.{weakPast}
-use Rattle.permitted.specs.Permitted.{permittedOf, markOf}
-use Rattle.permitted.specs.Find.{Steady}
+use Rattle.step_braking.specs.Braking.{strong}
+use Rattle.step_braking.proofs.Exact.{strong-is}
+use Rattle.step_braking.proofs.Coursed.{course}
+use Rattle.query_way.specs.declared.Way.{Way}
+use Rattle.query_release.specs.Release.{weakPast}
+use Rattle.query_permitted.specs.Permitted.{permittedOf, markOf}
+use Rattle.query_permitted.specs.Find.{Steady}
 use Rattle.query.specs.Demand.{pastAt, Demand}
 use Rattle.query.specs.Answer.{release}
 use Rattle.query.specs.Begin.{Fit, FitAhead}

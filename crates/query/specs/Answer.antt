@@ -9,15 +9,15 @@ use Rattle.train.specs.declared.Train.{Train}
 use Rattle.train.specs.declared.Coefficients.{Coefficients}
 use Rattle.train.specs.Units.{kmh}
 use Rattle.train.specs.Refusal.{Refusal, _gives_, firstOf, trainRefusals}
-use Rattle.braking.specs.Braking.{strong}
+use Rattle.step_braking.specs.Braking.{strong}
 use Rattle.ceilings.specs.Ceilings.{limitsOf}
 use Rattle.ceilings.specs.Paper.{AsPrinted}
 use Rattle.ramp.specs.Answer.{timeRefusals}
 use Rattle.sheet.specs.Sheet.{lineOf}
-use Rattle.way.specs.declared.Way.{Way}
-use Rattle.way.specs.Way.{wayRefusals, wayOf}
-use Rattle.release.specs.Release.{releaseOf, weakPast}
-use Rattle.permitted.specs.Permitted.{permittedOf, markOf}
+use Rattle.query_way.specs.declared.Way.{Way}
+use Rattle.query_way.specs.Way.{wayRefusals, wayOf}
+use Rattle.query_release.specs.Release.{releaseOf, weakPast}
+use Rattle.query_permitted.specs.Permitted.{permittedOf, markOf}
 use Rattle.query.specs.declared.Answer.{Answer}
 use Rattle.query.specs.Demand.{pastAt, Demand}
 

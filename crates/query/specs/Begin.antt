@@ -11,13 +11,13 @@ use Rattle.train.specs.declared.Coefficients.{Coefficients}
 use Rattle.train.specs.Units.{kmh}
 use Rattle.train.specs.Gradient.{Moderate}
 use Rattle.train.specs.Refusal.{firstOf, trainRefusals}
-use Rattle.braking.specs.Braking.{strong}
+use Rattle.step_braking.specs.Braking.{strong}
 use Rattle.ramp.specs.Answer.{timeRefusals}
-use Rattle.way.specs.declared.Way.{Way}
-use Rattle.way.specs.declared.Found.{Found}
-use Rattle.way.specs.declared.Found.the-variants.{Refused, Ready}
-use Rattle.release.specs.Release.{weakPast}
-use Rattle.permitted.specs.Permitted.{permittedOf, markOf}
+use Rattle.query_way.specs.declared.Way.{Way}
+use Rattle.query_way.specs.declared.Found.{Found}
+use Rattle.query_way.specs.declared.Found.the-variants.{Refused, Ready}
+use Rattle.query_release.specs.Release.{weakPast}
+use Rattle.query_permitted.specs.Permitted.{permittedOf, markOf}
 use Rattle.query.specs.declared.Answer.{Answer}
 use Rattle.query.specs.Demand.{pastAt}
 use Rattle.query.specs.Answer.{refused, answered, release, inputs, wayTo}

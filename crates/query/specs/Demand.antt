@@ -6,12 +6,12 @@ use Rattle.exact.specs.Fraction.{Fraction, whole, _over_, _-q_, _≤q_, _<q_}
 use Rattle.train.specs.declared.Train.{Train}
 use Rattle.train.specs.declared.Coefficients.{Coefficients}
 use Rattle.train.specs.Units.{kmh}
-use Rattle.motion.specs.declared.Overrun.{Overrun}
-use Rattle.motion.specs.Motion.{placeAt}
+use Rattle.ramp_motion.specs.declared.Overrun.{Overrun}
+use Rattle.ramp_motion.specs.Motion.{placeAt}
 use Rattle.ramp.specs.Answer.{overrun, leeway}
-use Rattle.curve.specs.Step.{P}
-use Rattle.way.specs.declared.Way.{Way}
-use Rattle.permitted.specs.Permitted.{onCurve, onRelease}
+use Rattle.step_curve.specs.Step.{P}
+use Rattle.query_way.specs.declared.Way.{Way}
+use Rattle.query_permitted.specs.Permitted.{onCurve, onRelease}
 
 -- the motion past the signal at a whole speed: the ramp's, with the train, TM and TR, the gradient of the overlap and place 0 at the signal
 abbrev pub pastAt : Train → ℕ → ℕ → Way → ℕ → Overrun

@@ -1,20 +1,20 @@
 // The approach query: how fast a train may come up to a closed signal, and how fast it may creep past. Document 01, "Approach".
 ghost use mathlib.Core.Path.{_≡_};
 ghost use Rattle.train.specs.Coefficients.{first, Within};
-ghost use Rattle.permitted.specs.Find.{Steady};
+ghost use Rattle.query_permitted.specs.Find.{Steady};
 ghost use Rattle.query.specs.Answer.{refused, answered, QueryAnswers};
 ghost use Rattle.query.specs.Begin.{Starts, Fit, FitAhead, answerAt, answerOn};
 use ceilings::Ceiling;
-use motion::Overrun;
-use permitted::Permitted;
-use release::Release;
+use query_permitted::Permitted;
+use query_release::Release;
+use query_way::Found;
+use query_way::Way;
+use ramp_motion::Overrun;
 use train::Coefficients;
 use train::Gradient;
 use train::Kmh;
 use train::Metre;
 use train::Train;
-use way::Found;
-use way::Way;
 
 // The release speed, the permitted speed, what holds it (mark 1: the curve, 2: the release speed), and the ceilings of the
 // permitted speed; or a refusal and zeros.
@@ -75,7 +75,7 @@ fn start(train: Train, tm: u32, tr: u32, s: &[u8], signal: u32, head: Metre) -> 
     if late > 0 {
         return Found::Refused(late);
     }
-    way::find(s, signal, head)
+    query_way::find(s, signal, head)
 }
 
 // The answer with a release speed.
@@ -89,7 +89,7 @@ fn answer_at(
     requires { ⌜ Within k × Steady k × FitAhead train ahead release ⌝ }
     ensures { λ r. ⌜ r ≡ answerAt k train ahead distance release ⌝ }
 {
-    let permitted = permitted::speed(k, train, ahead, release, distance);
+    let permitted = query_permitted::speed(k, train, ahead, release, distance);
     match permitted {
         Permitted::Weak => refused_with(10),
         Permitted::Release => given(release, release, 2),
@@ -114,7 +114,7 @@ fn answer_on(k: Coefficients, train: Train, tm: u32, tr: u32, w: Way) -> Answer
         tm: tm,
         tr: tr,
     };
-    let release = release::speed(k, o, overlap, top);
+    let release = query_release::speed(k, o, overlap, top);
     match release {
         Release::Weak => refused_with(10),
         Release::Speed(v) => answer_at(k, train, ahead, distance, v),

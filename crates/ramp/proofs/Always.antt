@@ -8,14 +8,14 @@ use Rattle.train.specs.declared.Coefficients.{Coefficients}
 use Rattle.train.specs.Coefficients.{Within}
 use Rattle.train.specs.Refusal.{firstOf}
 use Rattle.train.proofs.Refusals.{none-before, none-holds}
-use Rattle.motion.specs.declared.Overrun.{Overrun}
-use Rattle.motion.specs.declared.Plan.{Plan}
-use Rattle.motion.specs.Plan.{IsPlan}
-use Rattle.motion.proofs.Planned.{planOf, planOf-is}
-use Rattle.planning.specs.Fair.{Fair, Small}
-use Rattle.planning.proofs.Whole.{planOf-small}
-use Rattle.stopping.specs.Stop.{Turns, placeUp}
-use Rattle.stopping.proofs.Rolling.{turns}
+use Rattle.ramp_motion.specs.declared.Overrun.{Overrun}
+use Rattle.ramp_motion.specs.declared.Plan.{Plan}
+use Rattle.ramp_motion.specs.Plan.{IsPlan}
+use Rattle.ramp_motion.proofs.Planned.{planOf, planOf-is}
+use Rattle.ramp_plan.specs.Fair.{Fair, Small}
+use Rattle.ramp_plan.proofs.Whole.{planOf-small}
+use Rattle.ramp_stop.specs.Stop.{Turns, placeUp}
+use Rattle.ramp_stop.proofs.Rolling.{turns}
 use Rattle.ramp.specs.Answer.{inputs, strong, weak, rampRefusals, moment, distance, leeway, Promise}
 use Rattle.ramp.proofs.Moment.{moment-is}
 use Rattle.ramp.proofs.Kept.{strong-is, promised, distance-is, wider}

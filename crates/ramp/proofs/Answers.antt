@@ -9,9 +9,9 @@ use Rattle.train.specs.declared.Coefficients.{Coefficients}
 use Rattle.train.specs.Coefficients.{first}
 use Rattle.train.specs.Refusal.{firstOf}
 use Rattle.train.proofs.Refusals.{Rising, rising-before, first-after, first-before, none-holds}
-use Rattle.motion.specs.declared.Overrun.{Overrun}
-use Rattle.motion.specs.declared.Plan.{Plan}
-use Rattle.planning.specs.Fair.{Fair}
+use Rattle.ramp_motion.specs.declared.Overrun.{Overrun}
+use Rattle.ramp_motion.specs.declared.Plan.{Plan}
+use Rattle.ramp_plan.specs.Fair.{Fair}
 use Rattle.ramp.specs.declared.Stop.{Stop}
 use Rattle.ramp.specs.Answer.{inputs, strong, weak, rampRefusals, refused, stopOf, RampAnswers}
 use Rattle.ramp.specs.Begin.{IsReady, Stops}

@@ -13,15 +13,15 @@ use Rattle.exact.proofs.Order.{leb-agree, ≤q-<q-trans}
 use Rattle.exact.proofs.Substitution.{≈q-refl, ≈q-sym, ≈q-trans, becomes, net, +q-cong, *q-cong, ≤q-cong, <q-cong}
 use Rattle.exact.proofs.Raised.{raised-cong, raised-over-le, raised-over-near}
 use Rattle.train.specs.declared.Coefficients.{Coefficients}
-use Rattle.motion.specs.declared.Overrun.{Overrun}
-use Rattle.motion.specs.declared.Plan.{Plan}
-use Rattle.motion.specs.Motion.{di, dp, placeAt}
-use Rattle.motion.specs.Plan.{IsPlan, squares, gain, loss}
-use Rattle.motion.proofs.Brake.{built, bend}
-use Rattle.motion.proofs.Furthest.{more, less, finer, Fast, Slow, ahead, furthest-fine}
-use Rattle.motion.proofs.Phases.{place-is}
-use Rattle.planning.specs.Fair.{Small}
-use Rattle.stopping.specs.Stop.{Turns, placeUp}
+use Rattle.ramp_motion.specs.declared.Overrun.{Overrun}
+use Rattle.ramp_motion.specs.declared.Plan.{Plan}
+use Rattle.ramp_motion.specs.Motion.{di, dp, placeAt}
+use Rattle.ramp_motion.specs.Plan.{IsPlan, squares, gain, loss}
+use Rattle.ramp_motion.proofs.Brake.{built, bend}
+use Rattle.ramp_motion.proofs.Furthest.{more, less, finer, Fast, Slow, ahead, furthest-fine}
+use Rattle.ramp_motion.proofs.Phases.{place-is}
+use Rattle.ramp_plan.specs.Fair.{Small}
+use Rattle.ramp_stop.specs.Stop.{Turns, placeUp}
 use Rattle.ramp.specs.Answer.{strong, distance, Promise}
 use Rattle.ramp.proofs.Moment.{place-at, moment-is}
 

@@ -15,14 +15,14 @@ use Rattle.exact.proofs.Shape.{shape}
 use Rattle.exact.proofs.Order.{leb-agree}
 use Rattle.exact.proofs.Substitution.{≈q-refl, becomes, ≤q-cong, <q-cong}
 use Rattle.train.specs.declared.Coefficients.{Coefficients}
-use Rattle.motion.specs.declared.Overrun.{Overrun}
-use Rattle.motion.specs.declared.Plan.{Plan}
-use Rattle.motion.specs.Motion.{speedAt, placeAt}
-use Rattle.motion.specs.Plan.{IsPlan, fast, slow, gain, loss}
-use Rattle.motion.proofs.Furthest.{fast-fine, slow-fine, gain-fine, loss-fine}
-use Rattle.motion.proofs.Phases.{place-is, speed-is}
-use Rattle.stopping.specs.Stop.{Turns, longest}
-use Rattle.stopping.proofs.Rolling.{rolls-on}
+use Rattle.ramp_motion.specs.declared.Overrun.{Overrun}
+use Rattle.ramp_motion.specs.declared.Plan.{Plan}
+use Rattle.ramp_motion.specs.Motion.{speedAt, placeAt}
+use Rattle.ramp_motion.specs.Plan.{IsPlan, fast, slow, gain, loss}
+use Rattle.ramp_motion.proofs.Furthest.{fast-fine, slow-fine, gain-fine, loss-fine}
+use Rattle.ramp_motion.proofs.Phases.{place-is, speed-is}
+use Rattle.ramp_stop.specs.Stop.{Turns, longest}
+use Rattle.ramp_stop.proofs.Rolling.{rolls-on}
 use Rattle.ramp.specs.Answer.{lastBelow, moment}
 
 last-is : (n t : ℕ) (b : ℕ → Bool) → t < n → b t ≡ true → ((s : ℕ) → t < s → b s ≡ false) → t ≡ lastBelow n b

@@ -5,16 +5,16 @@ use native.Mathlib.Omega.{arith}
 use native.Mathlib.Nat.{mul-le-mul-left}
 use Rattle.train.specs.declared.Coefficients.{Coefficients}
 use Rattle.train.specs.Units.{kmh}
-use Rattle.motion.specs.declared.Overrun.{Overrun}
-use Rattle.motion.specs.declared.Plan.{Plan}
-use Rattle.motion.specs.Motion.{dp}
-use Rattle.motion.specs.Plan.{IsPlan}
-use Rattle.motion.proofs.Planned.{planOf-is}
-use Rattle.planning.specs.Fair.{Small, Enough}
-use Rattle.planning.proofs.Whole.{by-rise}
-use Rattle.stopping.specs.Stop.{Turns, placeUp}
-use Rattle.stopping.proofs.Rolling.{turns}
-use Rattle.stopping.proofs.Slower.{stops-sooner}
+use Rattle.ramp_motion.specs.declared.Overrun.{Overrun}
+use Rattle.ramp_motion.specs.declared.Plan.{Plan}
+use Rattle.ramp_motion.specs.Motion.{dp}
+use Rattle.ramp_motion.specs.Plan.{IsPlan}
+use Rattle.ramp_motion.proofs.Planned.{planOf-is}
+use Rattle.ramp_plan.specs.Fair.{Small, Enough}
+use Rattle.ramp_plan.proofs.Whole.{by-rise}
+use Rattle.ramp_stop.specs.Stop.{Turns, placeUp}
+use Rattle.ramp_stop.proofs.Rolling.{turns}
+use Rattle.ramp_stop.proofs.Slower.{stops-sooner}
 use Rattle.ramp.specs.declared.Stop.{Stop}
 use Rattle.ramp.specs.Answer.{overrun, distance}
 use Rattle.ramp.specs.Begin.{Stops, fromSpeed}

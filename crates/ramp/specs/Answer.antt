@@ -10,8 +10,8 @@ use Rattle.train.specs.declared.Gradient.{Gradient}
 use Rattle.train.specs.declared.Coefficients.{Coefficients}
 use Rattle.train.specs.Units.{inMillimetres}
 use Rattle.train.specs.Refusal.{Refusal, _gives_, firstOf, weightRefusals, gradientRefusals, strongEnough}
-use Rattle.motion.specs.declared.Overrun.{Overrun}
-use Rattle.motion.specs.Motion.{di, dp, speedAt, placeAt}
+use Rattle.ramp_motion.specs.declared.Overrun.{Overrun}
+use Rattle.ramp_motion.specs.Motion.{di, dp, speedAt, placeAt}
 use Rattle.ramp.specs.declared.Stop.{Stop}
 
 -- a call's arguments as a record

@@ -3,11 +3,11 @@ use mathlib.Core.Path.{_≡_}
 use Prim.Native.Nat.{ℕ, _+_, _*_, _<_}
 use Rattle.train.specs.declared.Coefficients.{Coefficients}
 use Rattle.train.specs.Refusal.{firstOf}
-use Rattle.motion.specs.declared.Overrun.{Overrun}
-use Rattle.motion.specs.declared.Plan.{Plan}
-use Rattle.motion.specs.Plan.{IsPlan}
-use Rattle.planning.specs.Fair.{Small, Enough}
-use Rattle.stopping.specs.Stop.{Turns, placeUp, from}
+use Rattle.ramp_motion.specs.declared.Overrun.{Overrun}
+use Rattle.ramp_motion.specs.declared.Plan.{Plan}
+use Rattle.ramp_motion.specs.Plan.{IsPlan}
+use Rattle.ramp_plan.specs.Fair.{Small, Enough}
+use Rattle.ramp_stop.specs.Stop.{Turns, placeUp, from}
 use Rattle.ramp.specs.declared.Stop.{Stop}
 use Rattle.ramp.specs.declared.Begun.{Begun}
 use Rattle.ramp.specs.declared.Begun.the-variants.{Refused, Ready}

@@ -5,10 +5,10 @@ ghost use Rattle.train.specs.Coefficients.{first, Within};
 ghost use Rattle.train.specs.Gradient.{gradientOf};
 ghost use Rattle.train.specs.Refusal.{firstOf};
 ghost use Rattle.ramp.specs.Answer.{overrun, timeRefusals, inputs, refused, RampAnswers};
-ghost use Rattle.planning.specs.Fair.{Small, Enough};
+ghost use Rattle.ramp_plan.specs.Fair.{Small, Enough};
 ghost use Rattle.ramp.specs.Begin.{Starts, Stops, fromSpeed};
-use motion::Overrun;
-use motion::Plan;
+use ramp_motion::Overrun;
+use ramp_motion::Plan;
 use train::Coefficients;
 use train::Kmh;
 use train::Millimetre;
@@ -75,8 +75,8 @@ pub fn start(k: Coefficients, o: Overrun) -> Begun
     if bad > 0 {
         return Begun::Refused(bad);
     }
-    let m = planning::plan_of(k, o);
-    if !planning::is_strong(m) {
+    let m = ramp_plan::plan_of(k, o);
+    if !ramp_plan::is_strong(m) {
         return Begun::Refused(10);
     }
     Begun::Ready(m)
@@ -98,8 +98,8 @@ fn stop_at(m: Plan) -> Stop
     requires { ⌜ Small m × Enough m ⌝ }
     ensures { λ r. ⌜ Stops m r ⌝ }
 {
-    let t = stopping::search::last_forward(m);
-    let mm = stopping::place::place_up(m, t) + 1;
+    let t = ramp_stop::search::last_forward(m);
+    let mm = ramp_stop::place::place_up(m, t) + 1;
     let ms = t as u32;
     Stop {
         refusal: 0,
@@ -143,7 +143,7 @@ pub fn ramp(weight: u32, gradient: i32, v: Kmh, tm: u32, tr: u32) -> Stop
 {
     let o = Overrun {
         weight: weight,
-        gradient: slope::gradient_of(gradient),
+        gradient: train_slope::gradient_of(gradient),
         v: v,
         tm: tm,
         tr: tr,

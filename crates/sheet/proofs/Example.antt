@@ -5,7 +5,7 @@ use mathlib.Core.List.{List, [], _∷_}
 use Prim.Native.Nat.{ℕ}
 use lib.IntN.{pos}
 use Rattle.lists.specs.Counted.{upTo, every, allHold}
-use Rattle.line.specs.Bytes.{u16At, u32At, bytes2, bytes4, signed, complement}
+use Rattle.sheet_line.specs.Bytes.{u16At, u32At, bytes2, bytes4, signed, complement}
 use Rattle.sheet.specs.Sheet.{keeps, accepted, records, bytesOf}
 use Rattle.sheet.specs.Fields.{Fields, sheetOf, fieldsOf}
 

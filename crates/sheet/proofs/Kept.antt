@@ -10,9 +10,9 @@ use lib.IntN.{ℤ}
 use Rattle.lists.specs.Counted.{allHold}
 use Rattle.lists.proofs.Holding.{and-left, and-right, every-at, every-of, each-of, all-of}
 use Rattle.train.specs.Gradient.{gradientOf, Moderate}
-use Rattle.line.specs.Line.{Line, rises, moderate, countRules, stretchRules, signalRules}
+use Rattle.sheet_line.specs.Line.{Line, rises, moderate, countRules, stretchRules, signalRules}
 use Rattle.sheet.specs.Sheet.{lineOf, headerRules, keeps, accepted}
-use Rattle.line.specs.Records.{Counts, Along}
+use Rattle.sheet_line.specs.Records.{Counts, Along}
 use Rattle.sheet.specs.Headed.{Headed}
 
 pub record Kept (l : Line) : Type 0 where

@@ -8,7 +8,7 @@ use native.Mathlib.Numerals.{add-one}
 use lib.ListN.{length, getD, take, drop, length-append, List·getD-append}
 use lib.Seq.{drop-cons, drop-drop, take-add, getD-append-add}
 use Rattle.lists.proofs.Split.{earlier}
-use Rattle.line.specs.Bytes.{u16At, u32At, bytes2, bytes4}
+use Rattle.sheet_line.specs.Bytes.{u16At, u32At, bytes2, bytes4}
 use Rattle.sheet.specs.Sheet.{records}
 
 -- the n elements from place i on

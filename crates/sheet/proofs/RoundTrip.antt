@@ -10,13 +10,13 @@ use lib.Seq.{take-all}
 use Rattle.lists.specs.Counted.{upTo}
 use Rattle.lists.proofs.Places.{places-length, places-at, places-of}
 use Rattle.train.specs.Gradient.{gradientOf, Moderate}
-use Rattle.line.specs.Bytes.{u16At, u32At, bytes2, bytes4, signed, complement}
-use Rattle.line.specs.Line.{Line}
+use Rattle.sheet_line.specs.Bytes.{u16At, u32At, bytes2, bytes4, signed, complement}
+use Rattle.sheet_line.specs.Line.{Line}
 use Rattle.sheet.specs.Sheet.{stretchOffset, signalOffset, sheetLength, lineOf, accepted, header, records, bytesOf}
 use Rattle.sheet.specs.Fields.{Fields, listed, sheetOf, fieldsOf}
-use Rattle.line.specs.Records.{Along}
+use Rattle.sheet_line.specs.Records.{Along}
 use Rattle.sheet.specs.Headed.{Headed}
-use Rattle.line.proofs.Complement.{complement-signed, signed-complement, moderate-fits}
+use Rattle.sheet_line.proofs.Complement.{complement-signed, signed-complement, moderate-fits}
 use Rattle.sheet.proofs.Kept.{Kept, keeps-of, headed-of, accepted-is}
 use Rattle.sheet.proofs.Parts.{part, part-join, half, two-bytes, four-bytes, table-bytes, two, four, u16-behind, u32-behind, u16-before, u32-before, records-length, first-back, second-back}
 

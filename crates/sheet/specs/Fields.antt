@@ -7,7 +7,7 @@ use lib.Dec.{eqb}
 use lib.IntN.{ℤ, pos}
 use lib.ListN.{length, getD}
 use Rattle.lists.specs.Counted.{upTo}
-use Rattle.line.specs.Line.{Line}
+use Rattle.sheet_line.specs.Line.{Line}
 use Rattle.sheet.specs.Sheet.{lineOf, keeps, accepted, bytesOf}
 
 pub record Fields : Type 0 where

@@ -4,7 +4,7 @@ use mathlib.Core.Path.{_≡_}
 use mathlib.Core.List.{List}
 use Prim.Native.Nat.{ℕ, _≤_}
 use lib.ListN.{length}
-use Rattle.line.specs.Bytes.{u16At, u32At}
+use Rattle.sheet_line.specs.Bytes.{u16At, u32At}
 use Rattle.sheet.specs.Sheet.{stretchOffset, signalOffset, sheetLength}
 
 -- the header's offsets and lengths are right

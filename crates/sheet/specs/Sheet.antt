@@ -5,8 +5,8 @@ use Prim.Native.Nat.{ℕ, zero, suc, _+_, _*_}
 use lib.Dec.{leb, eqb}
 use lib.ListN.{length}
 use Rattle.lists.specs.Counted.{allHold}
-use Rattle.line.specs.Bytes.{u16At, u32At, bytes2, bytes4, signed, complement}
-use Rattle.line.specs.Line.{Line, countRules, stretchRules, signalRules}
+use Rattle.sheet_line.specs.Bytes.{u16At, u32At, bytes2, bytes4, signed, complement}
+use Rattle.sheet_line.specs.Line.{Line, countRules, stretchRules, signalRules}
 
 -- a header of 20 bytes, then n stretches and m signals of 6 bytes each
 abbrev pub stretchOffset : ℕ

@@ -2,17 +2,17 @@
 ghost use mathlib.Core.Path.{_≡_};
 ghost use Prim.Native.Nat.{_+_, _*_, _≤_, _<_};
 ghost use lib.ListN.{length};
-ghost use Rattle.line.specs.Bytes.{u16At, u32At};
-ghost use Rattle.line.specs.Line.{farthestEnd};
+ghost use Rattle.sheet_line.specs.Bytes.{u16At, u32At};
+ghost use Rattle.sheet_line.specs.Line.{farthestEnd};
 ghost use Rattle.sheet.specs.Sheet.{lineOf, keeps};
 ghost use Rattle.sheet.specs.Fields.{Checked};
-ghost use Rattle.line.specs.Records.{Decides, KeepsItself, Along};
+ghost use Rattle.sheet_line.specs.Records.{Decides, KeepsItself, Along};
 ghost use Rattle.sheet.specs.Headed.{Headed};
-use line::Table;
-use line::bytes::u16_at;
-use line::bytes::u32_at;
-use line::rules::counts_keep;
-use line::rules::record_keeps;
+use sheet_line::Table;
+use sheet_line::bytes::u16_at;
+use sheet_line::bytes::u32_at;
+use sheet_line::rules::counts_keep;
+use sheet_line::rules::record_keeps;
 
 // The n records of a table that begins at `at`.
 fn records_keep(table: Table, s: &[u8], at: usize, n: usize, end: u32) -> bool

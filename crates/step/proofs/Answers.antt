@@ -11,11 +11,11 @@ use Rattle.train.specs.Coefficients.{first}
 use Rattle.train.specs.Gradient.{Moderate}
 use Rattle.train.specs.Refusal.{firstOf}
 use Rattle.train.proofs.Refusals.{Rising, rising-before, none-holds}
-use Rattle.curve.specs.declared.Curve.the-variants.{Ebi, Sbi, W, P}
-use Rattle.braking.specs.declared.Course.{Course}
-use Rattle.braking.specs.Plan.{Near, Enough}
-use Rattle.braking.specs.Agreement.{IsCourse}
-use Rattle.curve.proofs.Exact.{distance-is, distance-least}
+use Rattle.step_curve.specs.declared.Curve.the-variants.{Ebi, Sbi, W, P}
+use Rattle.step_braking.specs.declared.Course.{Course}
+use Rattle.step_braking.specs.Plan.{Near, Enough}
+use Rattle.step_braking.specs.Agreement.{IsCourse}
+use Rattle.step_curve.proofs.Exact.{distance-is, distance-least}
 use Rattle.step.specs.Answer.{inputs, refused, weak, stepRefusals, stepOf, StepAnswers}
 use Rattle.step.specs.Begin.{placesOf}
 

@@ -10,9 +10,9 @@ use Rattle.train.specs.declared.Train.{Train}
 use Rattle.train.specs.declared.Gradient.{Gradient}
 use Rattle.train.specs.declared.Coefficients.{Coefficients}
 use Rattle.train.specs.Refusal.{Refusal, _gives_, firstOf, trainRefusals, gradientRefusals}
-use Rattle.curve.specs.declared.Curve.the-variants.{Ebi, Sbi, W, P}
-use Rattle.braking.specs.Braking.{strong}
-use Rattle.curve.specs.Step.{formula, distance}
+use Rattle.step_curve.specs.declared.Curve.the-variants.{Ebi, Sbi, W, P}
+use Rattle.step_braking.specs.Braking.{strong}
+use Rattle.step_curve.specs.Step.{formula, distance}
 use Rattle.step.specs.declared.Distances.{Distances}
 
 -- V and V0 of 0 to 330, V0 at most V

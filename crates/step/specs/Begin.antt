@@ -7,11 +7,11 @@ use Rattle.train.specs.declared.Train.{Train}
 use Rattle.train.specs.declared.Gradient.{Gradient}
 use Rattle.train.specs.Coefficients.{first}
 use Rattle.train.specs.Refusal.{firstOf}
-use Rattle.braking.specs.declared.Course.{Course}
-use Rattle.curve.specs.declared.Curve.the-variants.{Ebi, Sbi, W, P}
-use Rattle.braking.specs.Plan.{Near, Enough}
-use Rattle.curve.specs.Plan.{placeOf}
-use Rattle.braking.specs.Agreement.{IsCourse}
+use Rattle.step_braking.specs.declared.Course.{Course}
+use Rattle.step_curve.specs.declared.Curve.the-variants.{Ebi, Sbi, W, P}
+use Rattle.step_braking.specs.Plan.{Near, Enough}
+use Rattle.step_curve.specs.Plan.{placeOf}
+use Rattle.step_braking.specs.Agreement.{IsCourse}
 use Rattle.step.specs.declared.Distances.{Distances}
 use Rattle.step.specs.declared.Begun.{Begun}
 use Rattle.step.specs.declared.Begun.the-variants.{Refused, Ready}

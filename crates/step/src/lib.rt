@@ -4,11 +4,11 @@ ghost use Prim.Native.Nat.{_≤_};
 ghost use Rattle.train.specs.Coefficients.{first};
 ghost use Rattle.train.specs.Gradient.{gradientOf};
 ghost use Rattle.train.specs.Refusal.{firstOf};
-ghost use Rattle.braking.specs.Plan.{Small, Near, Enough};
+ghost use Rattle.step_braking.specs.Plan.{Small, Near, Enough};
 ghost use Rattle.step.specs.Answer.{inputs, refused, StepAnswers};
 ghost use Rattle.step.specs.Begin.{Starts, placesOf};
-use braking::Course;
-use curve::Curve;
+use step_braking::Course;
+use step_curve::Curve;
 use train::Gradient;
 use train::Kmh;
 use train::Millimetre;
@@ -57,13 +57,13 @@ pub fn start(train: Train, v: Kmh, v0: Kmh, at: Kmh, gradient: i32) -> Begun
     requires { ⌜ (v0 .0 ≤ v .0 → (v0 .0 ≤ at .0) × (at .0 ≤ v .0)) ⌝ }
     ensures { λ r. ⌜ Starts train (gradientOf gradient) v v0 at r ⌝ }
 {
-    let g = slope::gradient_of(gradient);
+    let g = train_slope::gradient_of(gradient);
     let bad = turned_away(train, v, v0, g);
     if bad > 0 {
         return Begun::Refused(bad);
     }
-    let c = course::course_of(train::first_values(), train, g);
-    if !braking::strength::is_strong(c, at, v0) {
+    let c = step_course::course_of(train::first_values(), train, g);
+    if !step_braking::strength::is_strong(c, at, v0) {
         return Begun::Refused(10);
     }
     Begun::Ready(c)
@@ -87,13 +87,13 @@ fn distances_at(c: Course, v: Kmh, v0: Kmh) -> Distances
     requires { ⌜ Small c × Near (v .0) (v0 .0) × Enough c (v .0) (v0 .0) ⌝ }
     ensures { λ r. ⌜ r ≡ placesOf c v v0 ⌝ }
 {
-    let b = quick::bounds_at(c, v, v, v0);
+    let b = step_quick::bounds_at(c, v, v, v0);
     Distances {
         refusal: 0,
-        ebi: quick::distance(Curve::Ebi, c, v, v0, b),
-        sbi: quick::distance(Curve::Sbi, c, v, v0, b),
-        w: quick::distance(Curve::W, c, v, v0, b),
-        p: quick::distance(Curve::P, c, v, v0, b),
+        ebi: step_quick::distance(Curve::Ebi, c, v, v0, b),
+        sbi: step_quick::distance(Curve::Sbi, c, v, v0, b),
+        w: step_quick::distance(Curve::W, c, v, v0, b),
+        p: step_quick::distance(Curve::P, c, v, v0, b),
     }
 }
 

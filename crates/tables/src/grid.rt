@@ -1,5 +1,5 @@
 // Where the inputs of the tables come from. Each takes any number and goes round.
-use curve::Curve;
+use step_curve::Curve;
 use train::BrakeType;
 use train::Kmh;
 use train::Metre;

@@ -61,7 +61,7 @@ pub fn row_line(k: usize) {
     let i = ROW_GRADIENTS[k / 8 % 3];
     let train = grid::train(k / 24, 100, 954, 330);
     let mut row = [0u32; 331];
-    let written = row::row(grid::curve(number), train, Kmh(v0), i, &mut row);
+    let written = step_row::row(grid::curve(number), train, Kmh(v0), i, &mut row);
     io::write_all(STDOUT_FILENO, b"row");
     text::field(number as u32);
     text::train(train);

@@ -3,7 +3,7 @@ use super::grid;
 use super::text;
 use libc::STDOUT_FILENO;
 use query::Answer;
-use reading::mark::Mark;
+use sheet_mark::Mark;
 use train::Metre;
 use train::Written;
 
@@ -35,11 +35,11 @@ fn write(
     let gradients = [0, gradient, 20, -20, 3, -21, -9, 7];
     let places = [0, place, 2550, 5999];
     let overlaps = [120, overlap, 800, 1];
-    writing::write(&starts, &gradients, &places, &overlaps, Metre(end), lent)
+    sheet_writer::write(&starts, &gradients, &places, &overlaps, Metre(end), lent)
 }
 
 fn stretch(s: &[u8], number: u32) {
-    let stretch = lookup::read_stretch(s, number);
+    let stretch = sheet_lookup::read_stretch(s, number);
     let start = stretch.start;
     text::field(stretch.refusal);
     text::field(start.0);
@@ -47,7 +47,7 @@ fn stretch(s: &[u8], number: u32) {
 }
 
 fn signal(s: &[u8], number: u32) {
-    let signal = lookup::read_signal(s, number);
+    let signal = sheet_lookup::read_signal(s, number);
     let place = signal.place;
     let overlap = signal.overlap;
     text::field(signal.refusal);

@@ -23,7 +23,7 @@ pub fn flag(holds: bool) {
 
 // A space and a gradient, with its sign where it falls.
 pub fn gradient(i: i32) {
-    let g = slope::gradient_of(i);
+    let g = train_slope::gradient_of(i);
     if g.fall > 0 {
         io::write_all(STDOUT_FILENO, b" -");
         io::print_decimal(STDOUT_FILENO, g.fall as u64);

@@ -56,5 +56,5 @@ pub extern "C" fn wide_quotient_up(n: Wide, d: Wide) -> u32
     requires { ⌜ (0 < valueOf d) × (valueOf n ≤ 4294967295 * valueOf d) ⌝ }
     ensures { λ r. ⌜ r ≡ raised (valueOf n over valueOf d) ⌝ }
 {
-    quotient::quotient_up(n, d)
+    wide_quotient::quotient_up(n, d)
 }

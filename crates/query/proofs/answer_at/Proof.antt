@@ -1,9 +1,9 @@
 -- `answer_at`: what the climb to the permitted speed found makes the answer.
 use borrow.Author.Needs.{needs}
 use mathlib.Core.Path.{_≡_, _∙_}
-use Rattle.permitted.specs.declared.Permitted.the-variants.{Weak, Release, Curve}
-use Rattle.permitted.specs.Permitted.{onCurve, onRelease}
-use Rattle.permitted.specs.Find.{Permits}
+use Rattle.query_permitted.specs.declared.Permitted.the-variants.{Weak, Release, Curve}
+use Rattle.query_permitted.specs.Permitted.{onCurve, onRelease}
+use Rattle.query_permitted.specs.Find.{Permits}
 use Rattle.query.specs.Answer.{refused, answered}
 use Rattle.query.proofs.Answers.{too-weak, by-release, by-curve}
 use Rattle.query.proofs.answer_at.Statement.{statement}

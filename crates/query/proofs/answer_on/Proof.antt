@@ -1,8 +1,8 @@
 -- `answer_on`: what the climb to the release speed found makes the answer.
 use borrow.Author.Needs.{needs}
 use mathlib.Core.Path.{_≡_, _∙_}
-use Rattle.release.specs.declared.Release.the-variants.{Weak, Speed}
-use Rattle.release.specs.Find.{Releases}
+use Rattle.query_release.specs.declared.Release.the-variants.{Weak, Speed}
+use Rattle.query_release.specs.Find.{Releases}
 use Rattle.query.specs.Demand.{pastAt}
 use Rattle.query.specs.Begin.{answerAt}
 use Rattle.query.proofs.Creep.{inputs-past}

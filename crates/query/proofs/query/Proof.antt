@@ -4,7 +4,7 @@ use denote.Ref.{now}
 use mathlib.Core.Path.{refl}
 use Rattle.train.specs.Coefficients.{first}
 use Rattle.train.proofs.Spans.{first-within}
-use Rattle.way.specs.declared.Found.the-variants.{Refused}
+use Rattle.query_way.specs.declared.Found.the-variants.{Refused}
 use Rattle.query.specs.Begin.{Starts, IsReady}
 use Rattle.query.proofs.Answers.{by-inputs, on-way}
 use Rattle.query.proofs.query.Statement.{statement}

@@ -3,7 +3,7 @@ use mathlib.Core.Path.{refl, ap}
 use Prim.Native.Nat.{_+_}
 use borrow.Author.Needs.{needs}
 use native.Mathlib.Omega.{arith}
-use Rattle.motion.proofs.Furthest.{ahead}
+use Rattle.ramp_motion.proofs.Furthest.{ahead}
 use Rattle.ramp.proofs.stop_at.Statement.{statement}
 use Rattle.ramp.proofs.stop_at.Tie as tie
 

@@ -1,6 +1,6 @@
 -- `distances_at`: each of the four is the plan's distance.
-use Rattle.braking.specs.Plan.{Small, Near, Enough}
-use Rattle.quick.specs.Bounds.{IsBounds}
+use Rattle.step_braking.specs.Plan.{Small, Near, Enough}
+use Rattle.step_quick.specs.Bounds.{IsBounds}
 use Rattle.step.proofs.distances_at.Statement.{statement}
 use Rattle.step.proofs.distances_at.Tie as tie
 

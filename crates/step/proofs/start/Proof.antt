@@ -14,10 +14,10 @@ use Rattle.train.specs.Gradient.{gradientOf}
 use Rattle.train.specs.Refusal.{firstOf}
 use Rattle.train.proofs.Refusals.{first-after, first-before}
 use Rattle.train.proofs.Spans.{first-within}
-use Rattle.braking.specs.Plan.{Near}
-use Rattle.braking.specs.Braking.{strong}
-use Rattle.braking.specs.Agreement.{IsCourse}
-use Rattle.braking.proofs.Exact.{strong-is}
+use Rattle.step_braking.specs.Plan.{Near}
+use Rattle.step_braking.specs.Braking.{strong}
+use Rattle.step_braking.specs.Agreement.{IsCourse}
+use Rattle.step_braking.proofs.Exact.{strong-is}
 use Rattle.step.specs.Answer.{inputs, weak}
 use Rattle.step.proofs.Answers.{Accepted, inputs-rising, inputs-fit}
 use Rattle.step.proofs.start.Statement.{statement}

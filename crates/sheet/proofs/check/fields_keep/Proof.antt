@@ -7,13 +7,13 @@ use mathlib.Core.Bool.{Bool}
 use mathlib.Core.List.{List}
 use mathlib.Core.Path.{_≡_, sym, _∙_, refl, ap}
 use native.Mathlib.Omega.{arith}
-use Rattle.line.specs.declared.Table.{Table}
-use Rattle.line.specs.declared.Table.the-variants.{Stretches, Signals}
-use Rattle.line.specs.Records.{KeepsItself, Along, Decides, Counts}
+use Rattle.sheet_line.specs.declared.Table.{Table}
+use Rattle.sheet_line.specs.declared.Table.the-variants.{Stretches, Signals}
+use Rattle.sheet_line.specs.Records.{KeepsItself, Along, Decides, Counts}
 use Rattle.sheet.proofs.Kept.{keeps-of, kept-of}
-use Rattle.line.proofs.Deciding.{agrees}
+use Rattle.sheet_line.proofs.Deciding.{agrees}
 use Rattle.lists.proofs.Holding.{refuted}
-use Rattle.line.specs.Bytes.{u16At, u32At}
+use Rattle.sheet_line.specs.Bytes.{u16At, u32At}
 use Rattle.sheet.proofs.check.fields_keep.Statement.{statement}
 use Rattle.sheet.proofs.check.fields_keep.Tie as tie
 

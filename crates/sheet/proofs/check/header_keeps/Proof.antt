@@ -1,7 +1,7 @@
 -- `header_keeps`: a test for each number of the header.
 use borrow.Author.Needs.{needs}
 use native.Mathlib.Omega.{arith}
-use Rattle.line.proofs.Deciding.{said-yes, said-no}
+use Rattle.sheet_line.proofs.Deciding.{said-yes, said-no}
 use Rattle.sheet.proofs.check.header_keeps.Statement.{statement}
 use Rattle.sheet.proofs.check.header_keeps.Tie as tie
 

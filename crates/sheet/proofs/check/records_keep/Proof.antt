@@ -7,11 +7,11 @@ use mathlib.Core.Path.{_≡_, refl}
 use native.Mathlib.Omega.{arith}
 use native.Mathlib.Numerals.{add-one}
 use Prim.Native.Nat.{ℕ, _+_, _-_, _*_, _≤_}
-use Rattle.line.specs.declared.Table.{Table}
-use Rattle.line.specs.Bytes.{u16At, u32At}
-use Rattle.line.specs.Records.{Decides, KeepsItself, Along, lowest}
-use Rattle.line.proofs.Deciding.{said-yes, said-no}
-use Rattle.line.proofs.Tables.{on-line, none-yet, one-more, at-each}
+use Rattle.sheet_line.specs.declared.Table.{Table}
+use Rattle.sheet_line.specs.Bytes.{u16At, u32At}
+use Rattle.sheet_line.specs.Records.{Decides, KeepsItself, Along, lowest}
+use Rattle.sheet_line.proofs.Deciding.{said-yes, said-no}
+use Rattle.sheet_line.proofs.Tables.{on-line, none-yet, one-more, at-each}
 use Rattle.sheet.proofs.check.records_keep.Statement.{statement}
 use Rattle.sheet.proofs.check.records_keep.Tie as tie
 

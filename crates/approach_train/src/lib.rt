@@ -1,0 +1,35 @@
+// A train as C has it, and the train that it stands for: an enum cannot cross the border.
+ghost use mathlib.Core.Path.{_≡_};
+ghost use Rattle.approach_train.specs.Entered.{trainOf};
+use train::BrakeType;
+use train::Kmh;
+use train::Metre;
+use train::Train;
+
+// The braked weight percentage, the length in metres, the top speed in km/h.
+#[repr(C)]
+pub struct Entered {
+    pub freight: bool,
+    pub electropneumatic: bool,
+    pub weight: u32,
+    pub length: u32,
+    pub top: u32,
+}
+
+// The train that C's record stands for.
+pub fn train_of(t: Entered) -> Train
+    ensures { λ r. ⌜ r ≡ trainOf t ⌝ }
+{
+    let brake = if t.freight {
+        BrakeType::Freight
+    } else {
+        BrakeType::Passenger
+    };
+    Train {
+        brake: brake,
+        electropneumatic: t.electropneumatic,
+        weight: t.weight,
+        length: Metre(t.length),
+        top: Kmh(t.top),
+    }
+}

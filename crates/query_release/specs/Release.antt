@@ -1,0 +1,29 @@
+-- Document 01, "Approach": the release speed, at which a train may creep past a closed signal: braked there, it stops within the overlap.
+use mathlib.Core.Bool.{Bool, not, _&&_, cond}
+use Prim.Native.Nat.{ℕ, _*_, min}
+use lib.Dec.{leb, ltb, eqb}
+use Rattle.train.specs.declared.Kmh.{Kmh}
+use Rattle.train.specs.declared.Metre.{Metre}
+use Rattle.train.specs.declared.Coefficients.{Coefficients}
+use Rattle.train.specs.Units.{kmh}
+use Rattle.ramp_motion.specs.declared.Overrun.{Overrun}
+use Rattle.ramp.specs.Answer.{overrun, strong, distance}
+use Rattle.query_climb.specs.Climb.{climb}
+
+-- the same motion from v km/h
+abbrev pub atSpeed : Overrun → ℕ → Overrun
+atSpeed o v = overrun (o .weight) (o .gradient) (kmh v) (o .tm) (o .tr)
+
+-- o is the motion past the signal, from any speed
+module _ (k : Coefficients) (o : Overrun) (overlap : Metre) where
+  -- the ramp answer does not exceed 1,000 × overlap
+  abbrev pub stopsWithin : ℕ → Bool
+  stopsWithin v = leb (distance k (atSpeed o v)) (1000 * overlap .0)
+
+  -- climbing from 1 km/h to the lower of 100 and top speed; 0 where speed 1 does not stop within the overlap, or where the overlap is 0
+  unfoldable pub releaseOf : Kmh → ℕ
+  releaseOf top = cond (eqb (overlap .0) 0) 0 (climb stopsWithin 0 (min 100 (top .0)))
+
+  -- refusal 10 of the ramp, which is consulted where there is an overlap; it is the same at every speed
+  unfoldable pub weakPast : Bool
+  weakPast = ltb 0 (overlap .0) && not (strong k o)

@@ -1,2 +1,0 @@
-// The reading mark. Document 01, "Line sheet".
-pub mod mark;

@@ -1,0 +1,37 @@
+-- The rules of a table of records as the code meets them, one record at a time.
+-- Nobody has to believe this: `kept-of` and `keeps-of` (crates/sheet/proofs/Kept.antt) tie it to the paper's rules.
+use mathlib.Core.Path.{_≡_}
+use mathlib.Core.Bool.{Bool, true, false}
+use Prim.Native.Nat.{ℕ, zero, suc, _+_, _≤_, _<_}
+use Rattle.train.specs.Gradient.{gradientOf, Moderate}
+use Rattle.sheet_line.specs.declared.Table.{Table}
+use Rattle.sheet_line.specs.declared.Table.the-variants.{Stretches, Signals}
+use Rattle.sheet_line.specs.Bytes.{signed}
+use Rattle.sheet_line.specs.Line.{mostStretches, mostSignals, farthestEnd}
+
+-- b says whether P holds
+pub record Decides (b : Bool) (P : Type 0) : Type 0 where
+  pub yes : b ≡ true → P
+  pub no : b ≡ false → P → ⊥
+
+pub record Counts (n m end : ℕ) : Type 0 where
+  pub some : 1 ≤ n
+  pub stretches : n ≤ mostStretches
+  pub signals : m ≤ mostSignals
+  pub begins : 1 ≤ end
+  pub ends : end ≤ farthestEnd
+
+-- what a record of x metres and the two bytes y keeps by itself
+abbrev pub KeepsItself : Table → ℕ → ℕ → ℕ → Type 0
+KeepsItself Stretches end x y = (x < end) × Moderate (gradientOf (signed y))
+KeepsItself Signals end x y = (x < end) × (x + y ≤ end)
+
+-- the first n rise strictly, and each keeps its rule
+pub record Along (x : ℕ → ℕ) (Rule : ℕ → Type 0) (n : ℕ) : Type 0 where
+  pub rising : (k : ℕ) → suc k < n → x k < x (suc k)
+  pub each : (k : ℕ) → k < n → Rule k
+
+-- the least that the k-th may be
+unfoldable pub lowest : (ℕ → ℕ) → ℕ → ℕ
+lowest x zero = 0
+lowest x (suc k) = suc (x k)

@@ -1,0 +1,62 @@
+-- The mark along an accepted sheet: n moves from a fresh one give the stretches 0 to n - 1 in order, then "end" for ever.
+use mathlib.Core.Path.{_≡_, refl, ap, _∙_}
+use mathlib.Core.Bool.{true}
+use mathlib.Core.List.{List}
+use mathlib.Core.Logic.{⊎-elim}
+use Prim.Native.Nat.{ℕ, zero, suc, _≤_, _<_}
+use native.Mathlib.Omega.{arith}
+use native.Mathlib.Numerals.{add-one}
+use borrow.Author.Tests.{lt-ltb, le-ltb}
+use Rattle.lists.proofs.Split.{below}
+use Rattle.sheet_line.specs.Line.{Line}
+use Rattle.sheet.specs.Sheet.{lineOf, accepted}
+use Rattle.sheet_mark.specs.declared.Mark.{Mark}
+use Rattle.sheet_mark.specs.declared.Move.{Move}
+use Rattle.sheet_mark.specs.Answer.{stepOn, stepOff, stepOf, moveOf, afterMoves}
+
+-- a step before the end, and at it
+pub step-on : (l : Line) (m : Mark) → m .next < l .stretches → stepOf l m ≡ stepOn l m
+step-on l m h = simp (lt-ltb (m .next) (l .stretches) h)
+
+step-off : (l : Line) (m : Mark) → l .stretches ≤ m .next → stepOf l m ≡ stepOff m
+step-off l m h = simp (le-ltb (m .next) (l .stretches) h)
+
+-- and which it was
+pub on-line : (l : Line) (m : Mark) → stepOf l m .end ≤ 0 → m .next < l .stretches
+on-line l m h = ⊎-elim (λ i. i) (λ i. let e = ap (λ (r : Move). r .end) (step-off l m i) in omega arith) (below (m .next) (l .stretches))
+
+pub off-line : (l : Line) (m : Mark) → 0 < stepOf l m .end → l .stretches ≤ m .next
+off-line l m h = ⊎-elim (λ i. let e = ap (λ (r : Move). r .end) (step-on l m i) in omega arith) (λ i. i) (below (m .next) (l .stretches))
+
+module _ (s : List ℕ) (sheet : accepted s ≡ true) where
+  abbrev at : ℕ → Mark
+  at k = record { next = k }
+
+  move-on : (m : Mark) → m .next < lineOf s .stretches → moveOf s m ≡ stepOn (lineOf s) m
+  unfolding moveOf
+  move-on m h = simp sheet (step-on (lineOf s) m h)
+
+  -- any mark that is not before a stretch is at the end, and stays
+  pub stays : (m : Mark) → lineOf s .stretches ≤ m .next → moveOf s m ≡ stepOff m
+  unfolding moveOf
+  stays m h = simp sheet (step-off (lineOf s) m h)
+
+  before : (k : ℕ) → k ≤ lineOf s .stretches → afterMoves s k ≡ at k
+  unfolding afterMoves
+  before zero h = refl
+  before (suc k) h = ap (λ m. moveOf s m .mark) (before k (omega arith)) ∙ ap (λ (r : Move). r .mark) (move-on (at k) h) ∙ ap at (add-one k)
+
+  behind : (k : ℕ) → lineOf s .stretches ≤ k → afterMoves s k ≡ at (lineOf s .stretches)
+  unfolding afterMoves
+  behind zero h = ap at (let z : 0 ≡ lineOf s .stretches = omega arith in z)
+  behind (suc k) h =
+      ⊎-elim
+      (λ l. before (suc k) l ∙ ap at (let z : suc k ≡ lineOf s .stretches = omega arith in z))
+      (λ l. ap (λ m. moveOf s m .mark) (behind k l) ∙ ap (λ (r : Move). r .mark) (stays (at (lineOf s .stretches)) (omega arith)))
+      (below k (lineOf s .stretches))
+
+  pub in-order : (k : ℕ) → k < lineOf s .stretches → moveOf s (afterMoves s k) ≡ stepOn (lineOf s) (at k)
+  in-order k h = ap (moveOf s) (before k (omega arith)) ∙ move-on (at k) h
+
+  pub for-ever : (k : ℕ) → lineOf s .stretches ≤ k → moveOf s (afterMoves s k) ≡ stepOff (afterMoves s k)
+  for-ever k h = stays (afterMoves s k) (rw (behind k h) (omega arith))

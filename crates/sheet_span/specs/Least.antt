@@ -1,0 +1,63 @@
+-- Document 01, "Line sheet" and "Approach": which stretch holds a point, and the least gradient over a span of points.
+use mathlib.Core.Path.{_≡_}
+use mathlib.Core.Bool.{cond}
+use Prim.Native.Nat.{ℕ, zero, suc, _+_, _-_, _≤_, _<_}
+use lib.Dec.{leb, ltb}
+use Rattle.train.specs.declared.Gradient.{Gradient}
+use Rattle.train.specs.Gradient.{gradientOf}
+use Rattle.sheet_line.specs.Line.{Line}
+
+-- rise - fall of g is at most that of h
+infix 60 _≼_
+abbrev pub _≼_ : Gradient → Gradient → Type 0
+g ≼ h = g .rise + h .fall ≤ h .rise + g .fall
+
+abbrev pub lesser : Gradient → Gradient → Gradient
+lesser g h = cond (leb (g .rise + h .fall) (h .rise + g .fall)) g h
+
+module _ (l : Line) where
+  -- the gradient of a stretch
+  abbrev pub slope : ℕ → Gradient
+  slope k = gradientOf (l .gradient k)
+
+  -- a stretch reaches to the next start or the line end, that point excluded
+  abbrev pub reach : ℕ → ℕ
+  reach k = cond (ltb (suc k) (l .stretches)) (l .start (suc k)) (l .end)
+
+  pub record Holds (k p : ℕ) : Type 0 where
+    pub number : k < l .stretches
+    pub from : l .start k ≤ p
+    pub before : p < reach k
+
+  -- the gradient at a point of the line: of the last stretch that starts at or before it; the first starts at 0
+  unfoldable pub slopeUpTo : ℕ → ℕ → Gradient
+  slopeUpTo zero p = slope 0
+  slopeUpTo (suc k) p = cond (leb (l .start (suc k)) p) (slope (suc k)) (slopeUpTo k p)
+
+  abbrev pub slopeAt : ℕ → Gradient
+  slopeAt p = slopeUpTo (l .stretches - 1) p
+
+  -- the least gradient at `from` and the n points behind it
+  unfoldable pub leastOf : ℕ → ℕ → Gradient
+  leastOf from zero = slopeAt from
+  leastOf from (suc n) = lesser (leastOf from n) (slopeAt (from + suc n))
+
+  -- at the points from `from` up to but not including `to`, of which there is at least one
+  abbrev pub leastOver : ℕ → ℕ → Gradient
+  leastOver from to = leastOf from (to - from - 1)
+
+  module _ (from to : ℕ) where
+    -- a stretch that holds a point of the span
+    pub record Meets (k : ℕ) : Type 0 where
+      pub point : ℕ
+      pub first : from ≤ point
+      pub last : point < to
+      pub held : Holds k point
+
+    -- the promise: the definition's gradient, that of some stretch that holds a point, and no such stretch has less; and the same point by point
+    pub record LeastOver (g : Gradient) : Type 0 where
+      pub value : g ≡ leastOver from to
+      pub stretch : (k : ℕ) × (Meets k × (slope k ≡ g))
+      pub stretches : (k : ℕ) → Meets k → g ≼ slope k
+      pub point : (p : ℕ) × ((from ≤ p) × ((p < to) × (slopeAt p ≡ g)))
+      pub points : (p : ℕ) → from ≤ p → p < to → g ≼ slopeAt p

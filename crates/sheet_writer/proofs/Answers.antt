@@ -1,0 +1,38 @@
+-- What the writer promises, on each of its answers.
+use mathlib.Core.Path.{_≡_, ap, _∙_}
+use mathlib.Core.Bool.{true, false}
+use mathlib.Core.List.{List, _++_}
+use Prim.Native.Nat.{ℕ, suc, _≤_, _<_}
+use native.Mathlib.Omega.{arith}
+use borrow.Author.Tests.{lt-ltb, le-ltb}
+use lib.ListN.{length, take, drop}
+use lib.Seq.{take-at}
+use Rattle.lists.specs.Put.{put}
+use Rattle.lists.proofs.Laid.{put-front}
+use Rattle.sheet.specs.Sheet.{accepted}
+use Rattle.sheet.specs.Fields.{Fields, listed, writable, sheetOf, fieldsOf}
+use Rattle.sheet.proofs.RoundTrip.{bytes-length}
+use Rattle.sheet.proofs.Writable.{written-sheet, written-back}
+use Rattle.sheet_writer.specs.Answer.{size, writeOf, bufferAfter, Writes}
+
+never : {A : Type 0} (n : ℕ) → suc n ≡ 0 → A
+never n e = absurd (let z : suc n ≡ 0 = e in omega arith)
+
+module _ (f : Fields) (lent : List ℕ) where
+  pub broken : writable f ≡ false → Writes f lent (record { refusal = 7; length = 0 }) lent
+  unfolding writeOf bufferAfter
+  broken w = record { answer = simp w; memory = simp w; sheet = never 6; back = never 6 }
+
+  module _ (w : writable f ≡ true) where
+    pub no-room : length lent < size f → Writes f lent (record { refusal = 11; length = 0 }) lent
+    unfolding writeOf bufferAfter
+    no-room h = let t = lt-ltb (length lent) (size f) h in record { answer = simp (w, t); memory = simp (w, t); sheet = never 10; back = never 10 }
+
+    pub written : {after : List ℕ} → size f ≤ length lent → after ≡ put 0 (sheetOf f) lent → Writes f lent (record { refusal = 0; length = size f }) after
+    unfolding writeOf bufferAfter
+    written {after} h e =
+        let t = le-ltb (length lent) (size f) h in
+        let n = bytes-length (listed f) in
+        let m : after ≡ sheetOf f ++ drop (size f) lent = e ∙ put-front (sheetOf f) lent ∙ ap (λ (k : ℕ). sheetOf f ++ drop k lent) n in
+        let front : take (size f) after ≡ sheetOf f = ap (take (size f)) m ∙ take-at (sheetOf f) (drop (size f) lent) (size f) n in
+        record { answer = simp (w, t); memory = m ∙ simp (w, t); sheet = λ z. ap accepted front ∙ written-sheet f w; back = λ z. ap fieldsOf front ∙ written-back f w }

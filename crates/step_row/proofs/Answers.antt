@@ -1,0 +1,83 @@
+-- What the code finds out, refusal by refusal, makes a row's answer.
+use mathlib.Core.Path.{_≡_, refl, ap, _∙_}
+use mathlib.Core.List.{List, [], _∷_, _++_}
+use Prim.Native.Nat.{ℕ, _+_, _≤_, _<_}
+use native.Mathlib.Omega.{arith}
+use native.Mathlib.Nat.{le-refl, le-add-right}
+use borrow.Author.Tests.{lt-ltb, le-ltb, ne-eqb}
+use lib.Dec.{ltb, lit≤, lit<}
+use lib.ListN.{length, drop}
+use Rattle.lists.specs.Counted.{upTo}
+use Rattle.lists.proofs.Places.{same-places, place-at}
+use Rattle.train.specs.declared.Kmh.{Kmh}
+use Rattle.train.specs.declared.Train.{Train}
+use Rattle.train.specs.declared.Written.{Written}
+use Rattle.train.specs.declared.Gradient.{Gradient}
+use Rattle.train.specs.Units.{kmh}
+use Rattle.train.specs.Coefficients.{first}
+use Rattle.train.specs.Refusal.{Refusal, _gives_, firstOf}
+use Rattle.train.proofs.Refusals.{Rising, rising-before, first-after, first-before}
+use Rattle.step_curve.specs.declared.Curve.{Curve}
+use Rattle.step_braking.specs.declared.Course.{Course}
+use Rattle.step_curve.specs.Step.{distance}
+use Rattle.step_braking.specs.Plan.{Enough}
+use Rattle.step_curve.specs.Plan.{placeOf}
+use Rattle.step_braking.specs.Agreement.{IsCourse}
+use Rattle.step_curve.proofs.Exact.{distance-is, distance-least}
+use Rattle.step_braking.proofs.Rising.{enough-stays}
+use Rattle.step.specs.Answer.{inputs, weak}
+use Rattle.step_row.specs.Answer.{speeds, rowRefusals, rowAnswer, rowAfter, RowAnswers}
+
+-- the refusals go by rising numbers, so the lowest that applies is the answer (the train's `lowest` and `applies`)
+pub row-rising : (t : Train) (g : Gradient) (v0 : Kmh) (room : ℕ) → Rising 1 (rowRefusals first t g v0 room)
+row-rising t g v0 room = (tt, (tt, (tt, (tt, (tt, (tt, (tt, (tt, (tt, (tt, (tt, (tt, (tt, tt)))))))))))))
+
+-- a row's answer, the list afterwards, and that each place is exact
+module _ (t : Train) (g : Gradient) (x : Curve) (v0 : Kmh) (lent : List ℕ) where
+  abbrev Row : Written → List ℕ → Type 0
+  Row = RowAnswers first t g x v0 lent
+
+  abbrev short : List Refusal
+  short = ltb (length lent) (speeds t v0) gives 11 ∷ []
+
+  abbrev before : List Refusal
+  before = inputs t g (t .top) v0 ++ weak first t g v0 v0
+
+  before-rising : Rising 1 before
+  before-rising = rising-before 1 before short (row-rising t g v0 (length lent))
+
+  refused-row : (n : ℕ) → 0 < n → firstOf (rowRefusals first t g v0 (length lent)) ≡ n → Row (record { refusal = n; length = 0 }) lent
+  unfolding rowAnswer rowAfter
+  refused-row n l e = let z = ne-eqb n 0 (λ i. omega arith) in record { answer = rw (e, z); memory = rw (e, z); least = λ i h. absurd (let k : i < 0 = h in omega arith) }
+
+  pub row-refused : (n : ℕ) → 0 < n → firstOf before ≡ n → Row (record { refusal = n; length = 0 }) lent
+  row-refused n l e = refused-row n l (first-before before short (λ i. omega arith) ∙ e)
+
+  module _ (z : firstOf before ≡ 0) where
+    pub row-short : length lent < speeds t v0 → Row (record { refusal = 11; length = 0 }) lent
+    row-short l = refused-row 11 (lit< tt) (first-after 0 before short before-rising z ∙ rw (lt-ltb (length lent) (speeds t v0) l))
+
+    module _ (c : Course) (is : IsCourse first t g c) (enough : Enough c (v0 .0) (v0 .0)) where
+      -- strong at V0, so at every speed above
+      pub enough-on : (i : ℕ) → Enough c (v0 .0 + i) (v0 .0)
+      enough-on i = enough-stays first t g refl refl (lit≤ tt) v0 (kmh (v0 .0 + i)) v0 (le-refl _) (le-add-right (v0 .0) i) c is enough
+
+      abbrev exactly : ℕ → ℕ
+      exactly i = distance first t g (kmh (v0 .0 + i)) v0 x .0
+
+      abbrev n : ℕ
+      n = speeds t v0
+
+      row-is : (i : ℕ) → placeOf x c (v0 .0 + i) (v0 .0) ≡ exactly i
+      row-is i = distance-is first t g c is (kmh (v0 .0 + i)) v0 (le-add-right (v0 .0) i) (enough-on i) x
+
+      pub row-given : (after : List ℕ) → n ≤ length lent → after ≡ upTo (λ i. placeOf x c (v0 .0 + i) (v0 .0)) n ++ drop n lent → Row (record { refusal = 0; length = n }) after
+      unfolding rowAnswer rowAfter
+      row-given after l e =
+          let r : firstOf (rowRefusals first t g v0 (length lent)) ≡ 0 = first-after 0 before short before-rising z ∙ rw (le-ltb (length lent) n l) in
+          let p : after ≡ upTo exactly n ++ drop n lent = e ∙ ap (λ q. q ++ drop n lent) (same-places _ exactly n (λ i h. row-is i)) in
+          record {
+            answer = rw r;
+            memory = rw r p;
+            least = λ i h. rw (p, place-at exactly n i 0 (drop n lent) h) (distance-least first t g c is (kmh (v0 .0 + i)) v0 (le-add-right (v0 .0) i) (enough-on i) x);
+          }
