@@ -1,4 +1,5 @@
 // What designers link: each operation of document 01, as a C function. Each repeats the contract of the call below it.
+// Takes: every operation, `approach_train`. Gives: libapproach.a.
 ghost use mathlib.Core.Path.{_≡_};
 ghost use Rattle.train.specs.Units.{kmh};
 ghost use Rattle.train.specs.Coefficients.{first};

@@ -1,4 +1,5 @@
 // Document 01's program: reads a line sheet on standard input, and prints how one train may approach each of its signals.
+// Takes: `sheet`, `sheet_fields`, `query`. Gives: a program.
 ghost use mathlib.Core.Path.{_≡_};
 ghost use mathlib.Core.Bool.{true};
 ghost use Rattle.train.specs.Coefficients.{first};

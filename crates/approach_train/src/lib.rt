@@ -1,4 +1,5 @@
 // A train as C has it, and the train that it stands for: an enum cannot cross the border.
+// Takes: `train`. Gives: `Entered` and `train_of`, to `approach`.
 ghost use mathlib.Core.Path.{_≡_};
 ghost use Rattle.approach_train.specs.Entered.{trainOf};
 use train::BrakeType;

@@ -1,4 +1,5 @@
 // What a sheet says of the way to a signal and past it. Document 01, "Approach".
+// Takes: `sheet_lookup`, `sheet_span`. Gives: `find`, refusals 7, 8, 9 or the way, to `query`.
 ghost use mathlib.Core.Path.{_≡_};
 ghost use mathlib.Core.Bool.{true};
 ghost use Prim.Native.Nat.{_+_, _≤_, _<_};

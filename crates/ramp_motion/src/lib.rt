@@ -1,4 +1,5 @@
-// The motion of a train past a closed signal: document 01, "Ramp". Definitions and laws; the code that uses them is in `stopping` and `ramp`.
+// The motion of a train past a closed signal: document 01, "Ramp". Definitions and laws.
+// Takes: what slope and brake do (`train_slope`). Gives: the motion, and its whole numbers (`Plan`), to the ramp crates above.
 use train::Gradient;
 use train::Kmh;
 

@@ -1,4 +1,5 @@
 // The plan of a motion, in whole numbers, and whether its brake is strong enough. Document 01, "Ramp".
+// Takes: `ramp_motion`, `train_slope`. Gives: `plan_of`, `is_strong`, to `ramp`.
 ghost use mathlib.Core.Path.{_≡_};
 ghost use Prim.Native.Nat.{_+_, _*_};
 ghost use lib.Dec.{leb};

@@ -1,4 +1,5 @@
 // A line's numbers: how they stand in bytes, and their rules, wherever they are kept. Document 01, "Line sheet".
+// Takes: `lists`. Gives: numbers read from bytes, and the rules of one record, to `sheet`, in bytes, and to `sheet_lists`.
 pub mod bytes;
 pub mod rules;
 

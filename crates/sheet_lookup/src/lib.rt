@@ -1,4 +1,5 @@
 // A stretch or a signal of a line sheet, by its number. Document 01, "Line sheet".
+// Takes: `sheet`, `sheet_fields`. Gives: the operations `read_stretch`, `read_signal`, also to `query_way`.
 ghost use mathlib.Core.Path.{_≡_};
 ghost use Rattle.sheet_mark.specs.Answer.{Again};
 ghost use Rattle.sheet_lookup.specs.Answer.{stretchOf, signalOf};

@@ -1,4 +1,5 @@
 // Writing a line sheet from its fields into a lent buffer. Document 01, "Line sheet".
+// Takes: `sheet_lists`, `sheet_bytes`. Gives: the operation `write`.
 ghost use Rattle.sheet.specs.Fields.{fourLists};
 ghost use Rattle.sheet_writer.specs.Answer.{Writes};
 use train::Metre;

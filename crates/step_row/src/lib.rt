@@ -1,4 +1,5 @@
 // Rows of the step model, with document 002's first values. Document 01, "Step distances".
+// Takes: `step::start`, `step_quick`. Gives: the operation `row`.
 ghost use mathlib.Core.Path.{_≡_};
 ghost use Prim.Native.Nat.{ℕ, _+_, _≤_, _<_};
 ghost use mathlib.Core.List.{_++_};

@@ -1,6 +1,7 @@
 // Prints tables of every operation over a grid of inputs: a line for each input, the answer behind its `=`. What is stored as
 // its output comes from the Rust reference, so each check holds the library to the papers read a second time. Units are those of
 // the calls: km/h, metres, per mille, hundredths of a second; millimetres, milliseconds, 120ths of a km/h.
+// Takes: every operation. Gives: a program.
 mod grid;
 mod models;
 mod sheets;

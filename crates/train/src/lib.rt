@@ -1,4 +1,5 @@
 // The train, the line's gradient and document 002's coefficients, in the units that every model takes and returns.
+// Takes: `exact`. Gives: units, `Train`, `Coefficients` and refusals 1, 2, 3 and 5, to every model above.
 ghost use mathlib.Core.Path.{_≡_};
 ghost use Rattle.train.specs.Coefficients.{first};
 

@@ -1,4 +1,5 @@
 // The delay of the brake: document 002, section 7.1.1.
+// Takes: `train`. Gives: the delay of a train, to `step_course`.
 ghost use Prim.Native.Nat.{_≤_};
 ghost use mathlib.Core.Path.{_≡_};
 ghost use Rattle.exact.specs.Fraction.{_over_, _≈q_};

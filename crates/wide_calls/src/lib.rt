@@ -1,4 +1,5 @@
 // The wide numbers as C calls, for the Rust tests and the benchmark alone. The caller keeps what each `requires` asks.
+// Takes: `wide`, `wide_quotient`. Gives: nothing to a crate above.
 ghost use mathlib.Core.Path.{_≡_};
 ghost use Prim.Native.Nat.{_+_, _*_, _<_, _≤_};
 ghost use lib.Dec.{leb};

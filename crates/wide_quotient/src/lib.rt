@@ -1,4 +1,6 @@
-// The least quotient not below, counted up from an estimate. Of the estimate it needs only that it is not too high; how near it is decides the speed alone.
+// The least quotient not below, counted up from an estimate. Of the estimate it needs only that it is not too high; how near it is
+// decides the speed alone.
+// Takes: `wide`. Gives: `quotient_up`, by which `step_curve` and `ramp_stop` round, once and upwards.
 ghost use mathlib.Core.Path.{_≡_};
 ghost use Prim.Native.Nat.{_+_, _*_, _/_, _<_, _≤_, _^_};
 ghost use Rattle.exact.specs.Fraction.{_over_, raised};
