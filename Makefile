@@ -1,30 +1,44 @@
-# example: proves what has changed and runs the main job; distances, curves: more of what the library gives; bench: times it
-# beside Rust; tables: the stored output of crates/tables, from the reference; gate: everything from nothing, as CI does.
+# `make help` lists what can be made. Nothing is proved again that has not changed.
 cargo := PATH="$$PATH:$$HOME/.cargo/bin" cargo
 run := $(cargo) run --release --offline --manifest-path rust/Cargo.toml
+designers := target/staticlib/libapproach.a
+tests := target/staticlib/libwide_calls.a
+# What an archive is made of: its crate and those it rests on; with the folders, whose times tell that a file has gone.
+crates = $(addprefix crates/,$(subst :,,$(shell grep '^$(1):' crates.txt)))
+sources = crates.txt $(shell find $(call crates,$(1)) -name must-fail -prune -o -print)
 
-example:
+help: ## this list
+	@awk -F ':.*## ' '/^[a-z]+:.*## / { printf "make %-10s %s\n", $$1, $$2 }' Makefile
+
+example: ## proves what has changed and prints the approach speeds of document 01's sheet
 	rt check
 	target/bin/approach_sheet < crates/approach_sheet/stdin
 
-distances: archives
+distances: $(designers) ## prints distances, ceilings and ways past a signal of one train
 	$(run) --example distances
 
-curves: archives
+curves: $(designers) ## draws its braking curves: target/curves.svg
 	$(run) --example curves > target/curves.svg
 
-bench: archives
+bench: archives ## times the calls beside two peers in Rust
 	$(run) --bin bench
 
-tables:
-	$(run) --bin tables > crates/tables/stdout
+archives: $(designers) $(tests) ## proves what has changed and gives target/staticlib/libapproach.a
 
-archives:
-	rt check
-	rt staticlib approach
-	rt staticlib wide_calls
-
-gate:
+gate: ## everything from nothing, as CI does: proofs, wrong programs, programs, calls from C, Rust tests
 	bash .ci/run
 
-.PHONY: example distances curves bench tables archives gate
+tables: ## writes the stored output of crates/tables anew, from the reference
+	$(run) --bin tables > crates/tables/stdout
+
+clean: ## removes what the others make
+	rm -rf target rust/target
+
+$(designers): $(call sources,approach)
+	rt staticlib approach
+
+$(tests): $(call sources,wide_calls)
+	rt staticlib wide_calls
+
+.NOTPARALLEL:
+.PHONY: help example distances curves bench archives gate tables clean
