@@ -1,4 +1,4 @@
--- Document 01, "Step distances"; document 002, sections 7.1 to 7.4 as they are printed. Times in s, speeds in m/s.
+-- Document 01, "Step distances"; document 002, sections 7 to 7.4, and 8.1 for tR, as they are printed. Times in s, speeds in m/s.
 use mathlib.Core.Bool.{Bool, cond}
 use lib.Dec.{leb, eqb}
 use Rattle.exact.specs.Fraction.{Fraction, whole, signed, _over_, _+q_, _-q_, _*q_, maxq}

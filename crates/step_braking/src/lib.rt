@@ -1,4 +1,4 @@
-// How a train brakes on a gradient: what the speeds do not change of it, in whole numbers. Document 002, sections 7.1 to 7.4.
+// How a train brakes on a gradient: what the speeds do not change of it, in whole numbers. Document 002, sections 7 to 7.4.
 // Takes: what delay and slope are (`train_delay`, `train_slope`). Gives: `Course`, and the strength of its braking at a speed, to
 // `step_course`, `step_curve` and `step_quick`.
 use train::Kmh;

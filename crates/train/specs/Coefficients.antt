@@ -1,4 +1,4 @@
--- Document 002's coefficients, sections 7 to 7.3.3: their first values, and the upper ends of their spans.
+-- Document 002's coefficients, sections 7 to 7.3.3: their first values, and the upper ends of their spans but VC's.
 use Prim.Native.Nat.{_≤_}
 use Rattle.train.specs.declared.Coefficients.{Coefficients}
 use Rattle.train.specs.Units.{kmh}

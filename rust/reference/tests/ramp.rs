@@ -73,7 +73,7 @@ fn figures_stop_in_each_phase() {
     }
 }
 
-/// Sections 5.2.1 and 5.2.2 print dr 0,813 and dp 0,73 for λ 105, and di -0,30 for -28 per mille.
+/// Sections 5.2.1 and 5.2.2 print, both as dp, dr 0,813 and dp 0,73 for λ 105, and di -0,30 for -28 per mille.
 #[test]
 fn printed_decelerations() {
     let motion = moving((105, 0, 36, 0, 100));
