@@ -42,8 +42,8 @@ pub struct Signal {
     pub overlap: Metre,
 }
 
-/// What a sheet is written from: starts and gradients pair up as stretches, places and overlaps as signals, in lists of one
-/// length. Gradients are in per mille, overlaps in metres, in the widths that a sheet has for them.
+/// What a sheet is written from: starts and gradients pair up as stretches, places and overlaps as signals, in lists of
+/// one length. Gradients are in per mille, overlaps in metres, in the widths that a sheet has for them.
 #[derive(Clone, Copy, Debug, PartialEq, Eq)]
 pub struct Lists<'a> {
     /// Of 1 to 512 stretches: the first is 0, they rise strictly and are below the line end.
