@@ -1,5 +1,5 @@
-/* Each call of include/approach.h once, as a designer's tool would link it. What is expected is document 01's, or worked
- * out by hand from its formulas. Prints `N passed, M failed`. */
+/* Each call, refusal and mark of include/approach.h, as a designer's tool would link it. What is expected is document 01's,
+ * or worked out by hand from its formulas. Prints `N passed, M failed`. */
 #include "approach.h"
 #include <stdio.h>
 #include <string.h>
@@ -8,6 +8,8 @@ _Static_assert(sizeof(struct approach_train) == 16 && offsetof(struct approach_t
 _Static_assert(sizeof(struct approach_distances) == 20, "distances");
 _Static_assert(sizeof(struct approach_move) == 20 && offsetof(struct approach_move, mark) == 16, "move");
 _Static_assert(sizeof(struct approach_answer) == 28, "answer");
+_Static_assert(APPROACH_ACCEPTED == 0 && APPROACH_MARK_CURVE == 1 && APPROACH_MARK_RELEASE == 2, "document 01's numbers");
+_Static_assert(APPROACH_LONGEST_SHEET == 20 + 6 * 512 + 6 * 64 && APPROACH_LONGEST_ROW == 331, "the longest sheet and row");
 
 static int passed, failed;
 
@@ -38,52 +40,130 @@ typedef struct approach_written row_call(struct approach_train, uint32_t, int32_
 static void expect_row(const char *name, row_call *call, uint32_t first) {
     uint32_t row[3] = {7, 7, 7};
     struct approach_written written = call(train, 90, 0, row, 3);
-    expect(name, written.refusal == 0 && written.length == 2 && row[0] == first && row[1] > first && row[2] == 7);
+    bool accepted = written.refusal == APPROACH_ACCEPTED && written.length == 2;
+    expect(name, accepted && row[0] == first && row[1] > first && row[2] == 7);
 }
 
 static void models(void) {
     struct approach_distances d = approach_step(train, 90, 0, 0);
-    expect("step", d.refusal == 0 && d.ebi == 842532 && d.p == 1056282 && d.ebi < d.sbi && d.sbi < d.w && d.w < d.p);
+    bool rising = d.ebi < d.sbi && d.sbi < d.w && d.w < d.p;
+    expect("step", d.refusal == APPROACH_ACCEPTED && d.ebi == 842532 && d.p == 1056282 && rising);
     expect_row("row_ebi", approach_row_ebi, EBI);
     expect_row("row_sbi", approach_row_sbi, SBI);
     expect_row("row_w", approach_row_w, W);
     expect_row("row_p", approach_row_p, P);
     struct approach_stop stop = approach_ramp(100, 0, 36, 200, 400);
-    expect("ramp", stop.refusal == 0 && stop.distance >= 110850 && stop.distance <= 110854);
+    expect("ramp", stop.refusal == APPROACH_ACCEPTED && stop.distance >= 110850 && stop.distance <= 110854);
     struct approach_limits limits = approach_ceilings(111);
-    expect("ceilings", limits.refusal == 0 && limits.w == 13804 && limits.sbi == 13926 && limits.ebi == 14229);
+    bool right = limits.w == 13804 && limits.sbi == 13926 && limits.ebi == 14229;
+    expect("ceilings", limits.refusal == APPROACH_ACCEPTED && right);
+}
+
+/* From V0 0 to a top speed of 330 a row takes all its places. */
+static void longest_row(void) {
+    struct approach_train fastest = train;
+    fastest.top_speed = 330;
+    uint32_t row[APPROACH_LONGEST_ROW];
+    struct approach_written written = approach_row_p(fastest, 0, 0, row, APPROACH_LONGEST_ROW);
+    expect("longest row", written.refusal == APPROACH_ACCEPTED && written.length == APPROACH_LONGEST_ROW);
 }
 
 static void sheets(void) {
     const uint32_t starts[] = {0}, places[] = {0, 1057};
     const int16_t gradients[] = {0};
     const uint16_t overlaps[] = {120, 0};
-    uint8_t sheet[40];
+    uint8_t sheet[APPROACH_SHEET_LENGTH(1, 2) + 2];
     memset(sheet, 7, sizeof sheet);
     struct approach_written written = approach_sheet_write(starts, 1, gradients, 1, places, 2, overlaps, 2, 2000, sheet, sizeof sheet);
+    bool accepted = written.refusal == APPROACH_ACCEPTED && written.length == APPROACH_SHEET_LENGTH(1, 2);
     bool same = memcmp(sheet, example, sizeof example) == 0;
-    expect("sheet_write", written.refusal == 0 && written.length == 38 && same && sheet[38] == 7 && sheet[39] == 7);
+    expect("sheet_write", accepted && same && sheet[38] == 7 && sheet[39] == 7);
     struct approach_stretch stretch = approach_sheet_stretch(example, sizeof example, 1);
-    expect("sheet_stretch", stretch.refusal == 8 && stretch.start == 0 && stretch.gradient == 0);
+    expect("sheet_stretch", stretch.refusal == APPROACH_REFUSED_NUMBER && stretch.start == 0 && stretch.gradient == 0);
     struct approach_signal signal = approach_sheet_signal(example, sizeof example, 1);
-    expect("sheet_signal", signal.refusal == 0 && signal.place == 1057 && signal.overlap == 0);
+    expect("sheet_signal", signal.refusal == APPROACH_ACCEPTED && signal.place == 1057 && signal.overlap == 0);
     struct approach_move move = approach_sheet_next(example, sizeof example, (struct approach_mark){0});
-    expect("sheet_next", move.refusal == 0 && move.end == 0 && move.start == 0 && move.gradient == 0 && move.mark.next == 1);
+    bool first = move.end == 0 && move.start == 0 && move.gradient == 0 && move.mark.next == 1;
+    expect("sheet_next", move.refusal == APPROACH_ACCEPTED && first);
 }
 
-/* Document 01's program takes a top speed of 100. */
+/* Writes a level line of so many stretches and signals, one of each a metre. */
+static struct approach_written level_line(size_t stretches, size_t signals) {
+    static uint32_t metres[APPROACH_MOST_STRETCHES + 1];
+    static const int16_t gradients[APPROACH_MOST_STRETCHES + 1] = {0};
+    static const uint16_t overlaps[APPROACH_MOST_SIGNALS + 1] = {0};
+    static uint8_t sheet[APPROACH_LONGEST_SHEET];
+    for (uint32_t k = 0; k <= APPROACH_MOST_STRETCHES; k++) {
+        metres[k] = k;
+    }
+    return approach_sheet_write(
+        metres, stretches, gradients, stretches, metres, signals, overlaps, signals, 2000, sheet, sizeof sheet);
+}
+
+/* 1 to 512 stretches and 0 to 64 signals make a sheet. */
+static void sheet_lengths(void) {
+    const size_t n = APPROACH_MOST_STRETCHES, m = APPROACH_MOST_SIGNALS;
+    expect("shortest sheet", level_line(1, 0).length == APPROACH_SHEET_LENGTH(1, 0));
+    expect("longest sheet", level_line(n, m).length == APPROACH_LONGEST_SHEET);
+    expect("a stretch too many", level_line(n + 1, m).refusal == APPROACH_REFUSED_SHEET);
+    expect("a signal too many", level_line(n, m + 1).refusal == APPROACH_REFUSED_SHEET);
+}
+
+/* With the times and the head of document 01's program; every field of the answer counts. */
+static void expect_answer(const char *name, uint32_t top_speed, uint32_t signal, struct approach_answer wanted) {
+    struct approach_train t = train;
+    t.top_speed = top_speed;
+    struct approach_answer answer = approach_query(t, 200, 400, example, sizeof example, signal, 0);
+    expect(name, memcmp(&answer, &wanted, sizeof answer) == 0);
+}
+
+/* The program's top speed is 100. As 90 is permitted by the curve all speeds below fit, and the top speed ends a climb to 60. */
 static void query(void) {
-    struct approach_train fast = train;
-    fast.top_speed = 100;
-    struct approach_answer a = approach_query(fast, 200, 400, example, sizeof example, 1, 0);
-    bool speeds = a.refusal == 0 && a.release == 0 && a.permitted == 90 && a.mark == 1;
-    expect("query", speeds && a.w == 11280 && a.sbi == 11400 && a.ebi == 11700);
+    struct approach_answer release = {APPROACH_ACCEPTED, 37, 37, APPROACH_MARK_RELEASE, 4920, 5040, 5340};
+    struct approach_answer curve = {APPROACH_ACCEPTED, 0, 90, APPROACH_MARK_CURVE, 11280, 11400, 11700};
+    struct approach_answer top = {APPROACH_ACCEPTED, 0, 60, APPROACH_MARK_CURVE, 60 * 120 + 480, 60 * 120 + 600, 60 * 120 + 900};
+    expect_answer("query, held by the release speed", 100, 0, release);
+    expect_answer("query, held by the curve", 100, 1, curve);
+    expect_answer("query, held by the top speed", 60, 1, top);
+}
+
+/* The header's constant and the call's answer are document 01's number. */
+static void expect_refusal(uint32_t number, uint32_t constant, uint32_t refusal) {
+    char name[16];
+    snprintf(name, sizeof name, "refusal %u", (unsigned)number);
+    expect(name, constant == number && refusal == number);
+}
+
+/* What document 01 gives as an example of each; a head beyond its own sheet's second signal. */
+static void refusals(void) {
+    static const uint8_t no_stretch[20] = {0, 0, 0, 0, 20, 0, 0, 0, 20, 0, 0, 0, 20, 0, 0, 0, 0xD0, 0x07, 0, 0};
+    const size_t length = sizeof example;
+    struct approach_train odd = train, too_long = train, weak = train;
+    odd.braked_weight = 47;
+    too_long.length = 1001;
+    weak.braked_weight = 45;
+    uint32_t row[2] = {7, 7};
+    expect_refusal(1, APPROACH_REFUSED_BRAKED_WEIGHT, approach_step(odd, 90, 0, 0).refusal);
+    expect_refusal(2, APPROACH_REFUSED_LENGTH, approach_step(too_long, 90, 0, 0).refusal);
+    expect_refusal(3, APPROACH_REFUSED_SPEED, approach_step(train, 50, 400, 0).refusal);
+    expect_refusal(4, APPROACH_REFUSED_TARGET, approach_step(train, 50, 51, 0).refusal);
+    expect_refusal(5, APPROACH_REFUSED_GRADIENT, approach_step(train, 90, 0, 36).refusal);
+    expect_refusal(6, APPROACH_REFUSED_TIMES, approach_ramp(100, 0, 36, 200, 0).refusal);
+    expect_refusal(7, APPROACH_REFUSED_SHEET, approach_sheet_stretch(no_stretch, sizeof no_stretch, 0).refusal);
+    expect_refusal(8, APPROACH_REFUSED_NUMBER, approach_query(train, 200, 400, example, length, 2, 0).refusal);
+    expect_refusal(9, APPROACH_REFUSED_HEAD, approach_query(train, 200, 400, example, length, 1, 1058).refusal);
+    expect_refusal(10, APPROACH_REFUSED_WEAK_BRAKE, approach_step(weak, 90, 0, -19).refusal);
+    expect_refusal(11, APPROACH_REFUSED_ROOM, approach_row_ebi(train, 89, 0, row, 2).refusal);
+    expect("row in too few places", row[0] == 7 && row[1] == 7);
 }
 
 int main(void) {
     models();
+    longest_row();
     sheets();
+    sheet_lengths();
     query();
+    refusals();
     printf("%d passed, %d failed\n", passed, failed);
     return failed > 0;
 }

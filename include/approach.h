@@ -2,23 +2,11 @@
  * Approach speeds and stopping distances after RFI TC.SCC SR AV 03 R02 and RFI TC.PATC ST CM 01 M11, proved.
  * Link target/staticlib/libapproach.a, which `rt staticlib approach` writes.
  *
- * Every function takes every input and ends. It writes nothing but its answer and, in the two that write into lent
- * memory, the places or bytes that the answer names; on a refusal, nothing there. A list is a pointer and how many
+ * Every function takes every input and ends. It writes nothing but its answer and, in the rows and the sheet's writer,
+ * the places or bytes of lent memory that the answer names; on a refusal, nothing there. A list is a pointer and how many
  * elements lie behind it; no two lists of one call may overlap where one of them is written.
  *
  * Every answer begins with `refusal`: 0 where it is accepted, else the lowest number that applies, and all else is 0.
- *
- *    1  braked weight percentage not 45 to 160 in steps of 5
- *    2  length over 1,000 m
- *    3  a speed outside its span: top speed 1 to 330; V, V0 and a permitted speed 0 to 330; the ramp's V 1 to 100
- *    4  V0 above V; in a row, above the top speed
- *    5  gradient not -35 to 35
- *    6  dead time over 2,000, or rise time not 1 to 3,000
- *    7  the bytes are no line sheet, or the fields make none
- *    8  no such signal or stretch
- *    9  head beyond the signal
- *   10  the brake is too weak: it and the slope together decelerate by less than 0.05 m/s2, in a model consulted
- *   11  the list or buffer is too short for the output
  */
 #ifndef APPROACH_H
 #define APPROACH_H
@@ -30,6 +18,22 @@
 #ifdef __cplusplus
 extern "C" {
 #endif
+
+/* What `refusal` says. Beside each answer's stand the numbers that it can have. */
+enum approach_refusal {
+    APPROACH_ACCEPTED = 0,
+    APPROACH_REFUSED_BRAKED_WEIGHT = 1, /* braked weight percentage not 45 to 160 in steps of 5 */
+    APPROACH_REFUSED_LENGTH = 2,        /* length over 1,000 m */
+    APPROACH_REFUSED_SPEED = 3,         /* top speed not 1 to 330; V, V0, a permitted speed over 330; the ramp's V not 1 to 100 */
+    APPROACH_REFUSED_TARGET = 4,        /* V0 above V; in a row, above the top speed */
+    APPROACH_REFUSED_GRADIENT = 5,      /* gradient not -35 to 35 */
+    APPROACH_REFUSED_TIMES = 6,         /* dead time over 2,000, or rise time not 1 to 3,000 */
+    APPROACH_REFUSED_SHEET = 7,         /* the bytes are no line sheet, or the fields make none */
+    APPROACH_REFUSED_NUMBER = 8,        /* no such signal or stretch */
+    APPROACH_REFUSED_HEAD = 9,          /* head beyond the signal */
+    APPROACH_REFUSED_WEAK_BRAKE = 10,   /* brake and slope together decelerate by less than 0.05 m/s2, in a model consulted */
+    APPROACH_REFUSED_ROOM = 11,         /* the list or buffer is too short for the output */
+};
 
 /* A train. */
 struct approach_train {
@@ -70,6 +74,32 @@ struct approach_limits {
     uint32_t ebi;     /* of the emergency brake intervention */
 };
 
+/*
+ * The line sheet: a line in bytes that the caller keeps. Numbers are little-endian, there are no gaps, and the bytes may
+ * lie at any address. With n stretches and m signals, each numbered from 0:
+ *
+ *             at  bytes
+ *              0    2    n, 1 to 512
+ *              2    2    m, 0 to 64
+ *              4    4    where the stretches begin: 20
+ *              8    4    where the signals begin: 20 + 6n
+ *             12    4    the sheet's length: 20 + 6n + 6m, just as many bytes as are lent
+ *             16    4    line end in metres, 1 to 500,000
+ *        20 + 6k    4    stretch k: its start in metres
+ *        24 + 6k    2    its gradient in per mille, -35 to 35, in two's complement
+ *   20 + 6n + 6k    4    signal k: its place in metres
+ *   24 + 6n + 6k    2    its overlap in metres
+ *
+ * The first stretch starts at 0. Starts rise strictly and are below the line end. Places rise strictly and are below the
+ * line end, and place + overlap is at most the line end. Bytes or fields that break any of this are refused by 7.
+ */
+#define APPROACH_MOST_STRETCHES 512
+#define APPROACH_MOST_SIGNALS 64
+
+/* How many bytes a sheet of so many stretches and signals has, and how many the longest has. */
+#define APPROACH_SHEET_LENGTH(stretches, signals) (20 + 6 * (size_t)(stretches) + 6 * (size_t)(signals))
+#define APPROACH_LONGEST_SHEET APPROACH_SHEET_LENGTH(APPROACH_MOST_STRETCHES, APPROACH_MOST_SIGNALS)
+
 /* A stretch of a line sheet. It reaches to the next start or the line end, that point excluded. */
 struct approach_stretch {
     uint32_t refusal; /* 7, 8 */
@@ -98,12 +128,18 @@ struct approach_move {
     struct approach_mark mark; /* for the next move */
 };
 
+/* What holds the permitted speed of an accepted answer. */
+enum approach_answer_mark {
+    APPROACH_MARK_CURVE = 1,   /* "curve": its P distance to the release speed; or, where it is the top speed, that alone */
+    APPROACH_MARK_RELEASE = 2, /* "release": the release speed, whose own P distance is longer than the way to the signal */
+};
+
 /* How fast a train may come up to a closed signal, and how fast it may creep past. */
 struct approach_answer {
     uint32_t refusal;   /* 1, 2, 3, 6, 7, 8, 9, 10 */
     uint32_t release;   /* release speed, km/h: braked at the signal from it or less, the train stays within the overlap */
     uint32_t permitted; /* permitted speed where the head stands, km/h */
-    uint32_t mark;      /* 1 "curve": the P distance to the release speed holds it; 2 "release": the release speed does */
+    uint32_t mark;      /* an approach_answer_mark: "curve" also where no curve but the top speed ended the climb */
     uint32_t w;         /* the three ceilings of the permitted speed, 120ths of a km/h */
     uint32_t sbi;
     uint32_t ebi;
@@ -112,7 +148,10 @@ struct approach_answer {
 /* Distances from V to the target V0, both in km/h; the gradient in per mille, positive uphill. */
 struct approach_distances approach_step(struct approach_train train, uint32_t v, uint32_t v0, int32_t gradient);
 
-/* One curve's distances in millimetres for every V from V0 to the top speed, V0 first. */
+/* The most places that a row takes: from V0 0 to a top speed of 330. */
+#define APPROACH_LONGEST_ROW 331
+
+/* One curve's distances in millimetres for every V from V0 to the top speed, V0 first: top speed - V0 + 1 places. */
 struct approach_written approach_row_ebi(struct approach_train train, uint32_t v0, int32_t gradient, uint32_t *row, size_t places);
 struct approach_written approach_row_sbi(struct approach_train train, uint32_t v0, int32_t gradient, uint32_t *row, size_t places);
 struct approach_written approach_row_w(struct approach_train train, uint32_t v0, int32_t gradient, uint32_t *row, size_t places);
@@ -124,7 +163,8 @@ struct approach_stop approach_ramp(uint32_t braked_weight, int32_t gradient, uin
 /* The ceilings of a permitted speed in km/h. */
 struct approach_limits approach_ceilings(uint32_t permitted);
 
-/* Writes a line sheet. Starts and gradients pair up as stretches, places and overlaps as signals; metres and per mille. */
+/* Writes a line sheet, APPROACH_SHEET_LENGTH(start_count, place_count) bytes of it, from fields that keep its rules. Starts
+ * and gradients pair up as stretches, places and overlaps as signals, in lists of one length; metres and per mille. */
 struct approach_written approach_sheet_write(
     const uint32_t *starts, size_t start_count, const int16_t *gradients, size_t gradient_count,
     const uint32_t *places, size_t place_count, const uint16_t *overlaps, size_t overlap_count,

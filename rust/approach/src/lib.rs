@@ -47,6 +47,8 @@
 //! # Ok(())
 //! # }
 //! ```
+#![warn(missing_docs)]
+
 mod models;
 mod query;
 pub mod raw;
@@ -54,7 +56,9 @@ mod refusal;
 pub mod sheet;
 mod units;
 
-pub use models::{ceilings, ramp, row, step, Brake, Ceilings, Curve, Distances, Stop, Times, Train, CURVES};
+pub use models::{
+    ceilings, ramp, row, step, Brake, Ceilings, Curve, Distances, Stop, Times, Train, CURVES, LONGEST_ROW,
+};
 pub use query::{query, Approach, Mark};
 pub use refusal::Refusal;
 pub use units::{Ceiling, Hundredth, Kmh, Metre, Millimetre, Millisecond, PerMille};

@@ -7,10 +7,12 @@ use std::str::FromStr;
 
 pub use raw::{Curve, CURVES};
 
-/// Read from `passenger` and `freight`, and shown so.
+/// A train's brake type. Read from `passenger` and `freight`, and shown so.
 #[derive(Clone, Copy, Debug, PartialEq, Eq)]
 pub enum Brake {
+    /// The delay is that of document 01's passenger row.
     Passenger,
+    /// The delay is the larger of document 01's two rows.
     Freight,
 }
 
@@ -32,14 +34,18 @@ impl FromStr for Brake {
     }
 }
 
-/// A braked weight percentage of 45 to 160 in steps of 5, a length of at most 1,000 m, a top speed of 1 to 330 km/h.
+/// A train, as its data are entered.
 #[derive(Clone, Copy, Debug, PartialEq, Eq)]
 pub struct Train {
+    /// The brake type.
     pub brake: Brake,
     /// Whether the electropneumatic brake is working.
     pub electropneumatic: bool,
+    /// The braked weight percentage, 45 to 160 in steps of 5.
     pub braked_weight: u32,
+    /// At most 1,000 m.
     pub length: Metre,
+    /// The service regime's, 1 to 330 km/h.
     pub top_speed: Kmh,
 }
 
@@ -65,13 +71,18 @@ impl fmt::Display for Curve {
 /// The four distances, each the least whole millimetre not below the exact one.
 #[derive(Clone, Copy, Debug, PartialEq, Eq)]
 pub struct Distances {
+    /// Emergency brake intervention.
     pub ebi: Millimetre,
+    /// Service brake intervention.
     pub sbi: Millimetre,
+    /// Warning.
     pub w: Millimetre,
+    /// Permitted.
     pub p: Millimetre,
 }
 
 impl Distances {
+    /// The distance of a curve.
     pub fn of(self, curve: Curve) -> Millimetre {
         match curve {
             Curve::Ebi => self.ebi,
@@ -89,8 +100,11 @@ pub fn step(train: Train, v: Kmh, target: Kmh, gradient: PerMille) -> Result<Dis
     accepted(refusal, Distances { ebi, sbi, w, p })
 }
 
-/// One curve's distances for every speed from the target to the top speed, the target's first, in a lent list. What is
-/// handed back is the part that was written; on a refusal nothing is.
+/// The most places that a row takes: from a target of 0 to a top speed of 330 km/h.
+pub const LONGEST_ROW: usize = 331;
+
+/// One curve's distances for every speed from the target to the top speed, the target's first, in a lent list of at least
+/// top speed - target + 1 places. What is handed back is the part that was written; on a refusal nothing is.
 pub fn row(
     curve: Curve,
     train: Train,
@@ -107,17 +121,21 @@ fn numbers(list: &mut [Millimetre]) -> &mut [u32] {
     unsafe { &mut *(list as *mut [Millimetre] as *mut [u32]) }
 }
 
-/// Dead time TM, at most 20 s, and rise time TR, 0.01 to 30 s, of the brake past a signal.
+/// The times of the brake past a signal.
 #[derive(Clone, Copy, Debug, PartialEq, Eq)]
 pub struct Times {
+    /// The dead time TM, at most 20 s.
     pub dead: Hundredth,
+    /// The rise time TR, 0.01 to 30 s.
     pub rise: Hundredth,
 }
 
-/// At no moment is the train beyond the distance, and at the given moment it is less than 5 mm short of it.
+/// How far past a closed signal a train gets that is braked there.
 #[derive(Clone, Copy, Debug, PartialEq, Eq)]
 pub struct Stop {
+    /// At no moment is the train beyond it.
     pub distance: Millimetre,
+    /// Then the train is less than 5 mm short of the distance.
     pub moment: Millisecond,
 }
 
@@ -131,11 +149,15 @@ pub fn ramp(braked_weight: u32, gradient: PerMille, v: Kmh, times: Times) -> Res
 /// The speeds over which warning, service brake and emergency brake intervene.
 #[derive(Clone, Copy, Debug, PartialEq, Eq)]
 pub struct Ceilings {
+    /// Of the warning.
     pub w: Ceiling,
+    /// Of the service brake intervention.
     pub sbi: Ceiling,
+    /// Of the emergency brake intervention.
     pub ebi: Ceiling,
 }
 
+/// The ceilings of a permitted speed of 0 to 330 km/h.
 pub fn ceilings(permitted: Kmh) -> Result<Ceilings, Refusal> {
     let raw::Limits { refusal, w, sbi, ebi } = raw::ceilings(permitted.0);
     accepted(refusal, Ceilings { w: Ceiling(w), sbi: Ceiling(sbi), ebi: Ceiling(ebi) })

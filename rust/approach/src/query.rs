@@ -7,11 +7,28 @@ use std::fmt;
 
 /// What holds the permitted speed.
 #[derive(Clone, Copy, Debug, PartialEq, Eq)]
+#[repr(u32)]
 pub enum Mark {
-    /// Its P distance to the release speed.
-    Curve,
-    /// The release speed, whose own P distance is over the distance to the signal.
-    Release,
+    /// Its P distance to the release speed. This mark also stands where the top speed ends the climb: nothing but the top
+    /// speed holds a permitted speed that equals it.
+    Curve = raw::CURVE,
+    /// The release speed, whose own P distance is longer than the way to the signal.
+    Release = raw::RELEASE,
+}
+
+impl Mark {
+    /// Both, by number.
+    pub const ALL: [Mark; 2] = [Mark::Curve, Mark::Release];
+
+    /// Its number in document 01.
+    pub fn number(self) -> u32 {
+        self as u32
+    }
+
+    /// The mark of that number; none of 0, which is a refused answer's.
+    pub fn numbered(number: u32) -> Option<Mark> {
+        Mark::ALL.into_iter().find(|mark| mark.number() == number)
+    }
 }
 
 impl fmt::Display for Mark {
@@ -23,14 +40,16 @@ impl fmt::Display for Mark {
     }
 }
 
+/// The speeds of an approach to a closed signal.
 #[derive(Clone, Copy, Debug, PartialEq, Eq)]
 pub struct Approach {
-    /// Braked at the signal from this speed or less, the train stays within the overlap.
+    /// The release speed: braked at the signal from it or less, the train stays within the overlap.
     pub release: Kmh,
-    /// Where the head stands.
+    /// The permitted speed where the head stands.
     pub permitted: Kmh,
+    /// What holds the permitted speed.
     pub mark: Mark,
-    /// Of the permitted speed.
+    /// The three ceilings of the permitted speed.
     pub ceilings: Ceilings,
 }
 
@@ -39,11 +58,7 @@ pub fn query(train: Train, times: Times, sheet: &[u8], signal: u32, head: Metre)
     let answer = raw::query(train.into(), times.dead.0, times.rise.0, sheet, signal, head.0);
     let raw::Answer { refusal, release, permitted, mark, w, sbi, ebi } = answer;
     accepted(refusal, ())?;
-    let mark = match mark {
-        raw::CURVE => Mark::Curve,
-        raw::RELEASE => Mark::Release,
-        _ => unreachable!("an accepted answer has one of two marks"),
-    };
+    let mark = Mark::numbered(mark).expect("an accepted answer has one of two marks");
     let ceilings = Ceilings { w: Ceiling(w), sbi: Ceiling(sbi), ebi: Ceiling(ebi) };
     Ok(Approach { release: Kmh(release), permitted: Kmh(permitted), mark, ceilings })
 }

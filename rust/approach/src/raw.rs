@@ -1,50 +1,71 @@
 //! The calls as `include/approach.h` declares them, each safe since it takes every input: an answer is the number 0 and its
 //! fields, or a refusal's number and zeros.
+
+/// A train.
 #[repr(C)]
 #[derive(Clone, Copy, Debug, PartialEq, Eq)]
 pub struct Train {
+    /// Brake type: freight, else passenger.
     pub freight: bool,
+    /// Whether the electropneumatic brake is working.
     pub electropneumatic: bool,
+    /// Braked weight percentage.
     pub braked_weight: u32,
+    /// Metres.
     pub length: u32,
+    /// km/h.
     pub top_speed: u32,
 }
 
-/// Millimetres.
+/// The four distances in millimetres.
 #[repr(C)]
 #[derive(Clone, Copy, Debug, PartialEq, Eq)]
 pub struct Distances {
+    /// 0, or a refusal's number.
     pub refusal: u32,
+    /// Emergency brake intervention.
     pub ebi: u32,
+    /// Service brake intervention.
     pub sbi: u32,
+    /// Warning.
     pub w: u32,
+    /// Permitted.
     pub p: u32,
 }
 
-/// How many places of a row, or bytes of a sheet, were written.
+/// What a call that writes has written.
 #[repr(C)]
 #[derive(Clone, Copy, Debug, PartialEq, Eq)]
 pub struct Written {
+    /// 0, or a refusal's number.
     pub refusal: u32,
+    /// How many places of the row, or bytes of the sheet.
     pub length: u32,
 }
 
-/// How far past the signal in millimetres, and the moment in milliseconds.
+/// How far past the signal, and when.
 #[repr(C)]
 #[derive(Clone, Copy, Debug, PartialEq, Eq)]
 pub struct Stop {
+    /// 0, or a refusal's number.
     pub refusal: u32,
+    /// Millimetres.
     pub distance: u32,
+    /// Milliseconds.
     pub moment: u32,
 }
 
-/// 120ths of a km/h.
+/// The three ceilings in 120ths of a km/h.
 #[repr(C)]
 #[derive(Clone, Copy, Debug, PartialEq, Eq)]
 pub struct Limits {
+    /// 0, or a refusal's number.
     pub refusal: u32,
+    /// Of the warning.
     pub w: u32,
+    /// Of the service brake intervention.
     pub sbi: u32,
+    /// Of the emergency brake intervention.
     pub ebi: u32,
 }
 
@@ -52,66 +73,93 @@ pub struct Limits {
 #[repr(C)]
 #[derive(Clone, Copy, Debug, PartialEq, Eq)]
 pub struct Answer {
+    /// 0, or a refusal's number.
     pub refusal: u32,
+    /// Release speed, km/h.
     pub release: u32,
+    /// Permitted speed, km/h.
     pub permitted: u32,
+    /// [`CURVE`] or [`RELEASE`].
     pub mark: u32,
+    /// Of the warning.
     pub w: u32,
+    /// Of the service brake intervention.
     pub sbi: u32,
+    /// Of the emergency brake intervention.
     pub ebi: u32,
 }
 
-/// An answer's marks.
+/// An answer's mark "curve".
 pub const CURVE: u32 = 1;
+
+/// An answer's mark "release".
 pub const RELEASE: u32 = 2;
 
-/// A start in metres, a gradient in per mille.
+/// A stretch of a sheet.
 #[repr(C)]
 #[derive(Clone, Copy, Debug, PartialEq, Eq)]
 pub struct Stretch {
+    /// 0, or a refusal's number.
     pub refusal: u32,
+    /// Metres.
     pub start: u32,
+    /// Per mille.
     pub gradient: i32,
 }
 
-/// Metres.
+/// A signal of a sheet.
 #[repr(C)]
 #[derive(Clone, Copy, Debug, PartialEq, Eq)]
 pub struct Signal {
+    /// 0, or a refusal's number.
     pub refusal: u32,
+    /// Metres.
     pub place: u32,
+    /// Metres.
     pub overlap: u32,
 }
 
-/// A reading mark before stretch `next`.
+/// A reading mark.
 #[repr(C)]
 #[derive(Clone, Copy, Debug, PartialEq, Eq)]
 pub struct Mark {
+    /// The number of the stretch that it stands before.
     pub next: u32,
 }
 
+/// Before stretch 0.
 pub const FRESH: Mark = Mark { next: 0 };
 
-/// A mark's move: `end` is 1 past the last stretch, and the mark then stays.
+/// A move of a reading mark.
 #[repr(C)]
 #[derive(Clone, Copy, Debug, PartialEq, Eq)]
 pub struct Move {
+    /// 0, or a refusal's number.
     pub refusal: u32,
+    /// 1 past the last stretch, where the mark stays; else 0.
     pub end: u32,
+    /// Metres.
     pub start: u32,
+    /// Per mille.
     pub gradient: i32,
+    /// For the next move.
     pub mark: Mark,
 }
 
 /// Which of the four distances; C has a call for each.
 #[derive(Clone, Copy, Debug, PartialEq, Eq)]
 pub enum Curve {
+    /// Emergency brake intervention.
     Ebi,
+    /// Service brake intervention.
     Sbi,
+    /// Warning.
     W,
+    /// Permitted.
     P,
 }
 
+/// All four, in document 01's order.
 pub const CURVES: [Curve; 4] = [Curve::Ebi, Curve::Sbi, Curve::W, Curve::P];
 
 type Row = unsafe extern "C" fn(Train, u32, i32, *mut u32, usize) -> Written;
@@ -151,10 +199,12 @@ extern "C" {
     ) -> Answer;
 }
 
+/// Distances from V to V0, in km/h, on a gradient in per mille.
 pub fn step(train: Train, v: u32, v0: u32, gradient: i32) -> Distances {
     unsafe { approach_step(train, v, v0, gradient) }
 }
 
+/// One curve's distances in millimetres for every V from V0 to the top speed.
 pub fn row(curve: Curve, train: Train, v0: u32, gradient: i32, row: &mut [u32]) -> Written {
     let call: Row = match curve {
         Curve::Ebi => approach_row_ebi,
@@ -165,16 +215,17 @@ pub fn row(curve: Curve, train: Train, v0: u32, gradient: i32, row: &mut [u32]) 
     unsafe { call(train, v0, gradient, row.as_mut_ptr(), row.len()) }
 }
 
-/// TM and TR in hundredths of a second.
+/// The way past a closed signal from V in km/h; TM and TR in hundredths of a second.
 pub fn ramp(braked_weight: u32, gradient: i32, v: u32, tm: u32, tr: u32) -> Stop {
     unsafe { approach_ramp(braked_weight, gradient, v, tm, tr) }
 }
 
+/// The ceilings of a permitted speed in km/h.
 pub fn ceilings(permitted: u32) -> Limits {
     unsafe { approach_ceilings(permitted) }
 }
 
-/// Starts, places, overlaps and the end in metres, gradients in per mille.
+/// Writes a line sheet. Starts, places, overlaps and the end are in metres, gradients in per mille.
 pub fn sheet_write(
     starts: &[u32],
     gradients: &[i16],
@@ -200,19 +251,22 @@ pub fn sheet_write(
     }
 }
 
+/// The stretch of a number, from 0.
 pub fn sheet_stretch(sheet: &[u8], number: u32) -> Stretch {
     unsafe { approach_sheet_stretch(sheet.as_ptr(), sheet.len(), number) }
 }
 
+/// The signal of a number, from 0.
 pub fn sheet_signal(sheet: &[u8], number: u32) -> Signal {
     unsafe { approach_sheet_signal(sheet.as_ptr(), sheet.len(), number) }
 }
 
+/// The next stretch along the sheet.
 pub fn sheet_next(sheet: &[u8], mark: Mark) -> Move {
     unsafe { approach_sheet_next(sheet.as_ptr(), sheet.len(), mark) }
 }
 
-/// TM and TR in hundredths of a second, the signal by its number, the head in metres.
+/// The approach to the signal of a number; TM and TR in hundredths of a second, the head in metres.
 pub fn query(train: Train, tm: u32, tr: u32, sheet: &[u8], signal: u32, head: u32) -> Answer {
     unsafe { approach_query(train, tm, tr, sheet.as_ptr(), sheet.len(), signal, head) }
 }

@@ -2,21 +2,32 @@
 use std::error::Error;
 use std::fmt;
 
-/// The lowest number that applies.
-#[derive(Clone, Copy, Debug, PartialEq, Eq, PartialOrd, Ord, Hash)]
+/// What was turned away, in the words of the header's constants: of all that applies, the lowest number.
+#[derive(Clone, Copy, PartialEq, Eq, PartialOrd, Ord, Hash)]
 #[repr(u32)]
 pub enum Refusal {
+    /// A braked weight percentage that is not one of 45 to 160 in steps of 5.
     BrakedWeight = 1,
-    Length,
-    Speed,
-    Target,
-    Gradient,
-    Times,
-    Sheet,
-    Number,
-    Head,
-    WeakBrake,
-    Room,
+    /// A train longer than 1,000 m.
+    Length = 2,
+    /// A top speed that is not 1 to 330 km/h, another speed over 330, or one past the signal that is not 1 to 100.
+    Speed = 3,
+    /// A target speed above the speed, or in a row above the top speed.
+    Target = 4,
+    /// A gradient that is not -35 to 35 per mille.
+    Gradient = 5,
+    /// A dead time over 20 s, or a rise time that is not 0.01 to 30 s.
+    Times = 6,
+    /// Bytes that are no line sheet, or fields that make none: the rules are those of [`sheet`](crate::sheet).
+    Sheet = 7,
+    /// The number of a signal or stretch that the sheet does not have.
+    Number = 8,
+    /// A head beyond the signal.
+    Head = 9,
+    /// A brake that on its gradient decelerates by less than 0.05 m/s², in a model consulted.
+    WeakBrake = 10,
+    /// A list or buffer too short for the output.
+    Room = 11,
 }
 
 impl Refusal {
@@ -45,6 +56,7 @@ impl Refusal {
         Refusal::ALL.into_iter().find(|refusal| refusal.number() == number)
     }
 
+    /// What is wrong, without the number.
     pub fn text(self) -> &'static str {
         match self {
             Refusal::BrakedWeight => "the braked weight percentage is not one of 45 to 160 in steps of 5",
@@ -67,6 +79,13 @@ impl Refusal {
 impl fmt::Display for Refusal {
     fn fmt(&self, out: &mut fmt::Formatter) -> fmt::Result {
         write!(out, "{} (refusal {})", self.text(), self.number())
+    }
+}
+
+/// As it is displayed: a `main` that hands a refusal back then prints the text and the number, not a bare name.
+impl fmt::Debug for Refusal {
+    fn fmt(&self, out: &mut fmt::Formatter) -> fmt::Result {
+        fmt::Display::fmt(self, out)
     }
 }
 

@@ -1,7 +1,9 @@
 //! What the wrapper itself adds: refusals by name, numbers with their units.
 use approach::{
-    raw, Brake, Ceiling, Curve, Hundredth, Kmh, Mark, Metre, Millimetre, Millisecond, PerMille, Refusal, CURVES,
+    query, raw, row, sheet, Brake, Ceiling, Curve, Hundredth, Kmh, Mark, Metre, Millimetre, Millisecond, PerMille,
+    Refusal, Times, Train, CURVES, LONGEST_ROW,
 };
+use inputs::{EXAMPLE, EXAMPLE_TRAIN};
 use std::collections::BTreeSet;
 
 /// Document 01's table has the numbers 1 to 11.
@@ -15,6 +17,16 @@ fn refusals_by_number() {
     assert_eq!([0, 12, u32::MAX].map(Refusal::numbered), [None; 3]);
     let texts: BTreeSet<&str> = Refusal::ALL.into_iter().map(Refusal::text).collect();
     assert_eq!(texts.len(), 11);
+}
+
+/// A `main` that hands a refusal back prints "Error: " and its `{:?}`.
+#[test]
+fn refusals_where_main_ends() {
+    let printed = format!("Error: {:?}", Refusal::Number);
+    assert_eq!(printed, "Error: there is no signal or stretch of that number (refusal 8)");
+    for refusal in Refusal::ALL {
+        assert_eq!(format!("{refusal:?}"), refusal.to_string());
+    }
 }
 
 #[test]
@@ -39,9 +51,44 @@ fn brakes_by_name() {
     assert!(["", "Freight", "p"].iter().all(|word| word.parse::<Brake>().is_err()));
 }
 
-/// The interface numbers them so.
+/// Document 01 numbers the marks so.
 #[test]
 fn curves_and_marks() {
     assert_eq!(CURVES, [Curve::Ebi, Curve::Sbi, Curve::W, Curve::P]);
     assert_eq!([raw::CURVE, raw::RELEASE], [1, 2]);
+    assert_eq!(Mark::ALL.map(Mark::number), [1, 2]);
+    assert_eq!([0, 1, 2, 3].map(Mark::numbered), [None, Some(Mark::Curve), Some(Mark::Release), None]);
+}
+
+/// As 90 km/h is permitted to document 01's train, all speeds below fit, and its top speed ends a climb to 60.
+#[test]
+fn mark_at_the_top_speed() {
+    let approach = |top_speed| {
+        let train = Train { top_speed: Kmh(top_speed), ..EXAMPLE_TRAIN };
+        let times = Times { dead: Hundredth(200), rise: Hundredth(400) };
+        query(train, times, &EXAMPLE, 1, Metre(0)).map(|approach| (approach.permitted, approach.mark))
+    };
+    assert_eq!(approach(100), Ok((Kmh(90), Mark::Curve)));
+    assert_eq!(approach(60), Ok((Kmh(60), Mark::Curve)));
+}
+
+/// A level line of so many stretches and signals, one of each a metre, in the longest sheet's buffer.
+fn written(stretches: usize, signals: usize) -> Result<usize, Refusal> {
+    let metres: Vec<Metre> = (0..stretches.max(signals) as u32).map(Metre).collect();
+    let (starts, places) = (&metres[..stretches], &metres[..signals]);
+    let (gradients, overlaps) = (&vec![0; stretches], &vec![0; signals]);
+    let lists = sheet::Lists { starts, gradients, places, overlaps, end: Metre(2000) };
+    sheet::write(lists, &mut [0; sheet::LONGEST]).map(<[u8]>::len)
+}
+
+#[test]
+fn longest_sheet_and_row() {
+    assert_eq!(written(1, 0), Ok(sheet::length(1, 0)));
+    assert_eq!(written(512, 64), Ok(sheet::LONGEST));
+    assert_eq!([written(0, 64), written(513, 64), written(512, 65)], [Err(Refusal::Sheet); 3]);
+
+    let train = Train { top_speed: Kmh(330), ..EXAMPLE_TRAIN };
+    let mut list = [Millimetre(0); LONGEST_ROW];
+    assert_eq!(row(Curve::P, train, Kmh(0), PerMille(0), &mut list).map(<[_]>::len), Ok(LONGEST_ROW));
+    assert_eq!(row(Curve::P, train, Kmh(0), PerMille(0), &mut list[1..]), Err(Refusal::Room));
 }

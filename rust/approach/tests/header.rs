@@ -1,0 +1,57 @@
+//! What `include/approach.h` names for C, the wrapper names alike: nothing comes to one and is forgotten in the other.
+use approach::{sheet, Mark, Refusal, LONGEST_ROW};
+
+const HEADER: &str = include_str!("../../../include/approach.h");
+
+/// The header's constants whose names begin so, each with the rest of its name and its number, in order.
+fn constants(beginning: &str) -> Vec<(String, u32)> {
+    let constant = |line: &str| {
+        let (name, value) = line.trim().strip_prefix(beginning)?.split_once(" = ").expect("a number for each constant");
+        let (number, _) = value.split_once(',').expect("a comma behind each constant");
+        Some((name.to_string(), number.parse().expect("a number in decimal")))
+    };
+    HEADER.lines().filter_map(constant).collect()
+}
+
+/// The number that the header defines a name to be.
+fn defined(name: &str) -> usize {
+    let value = HEADER.lines().find_map(|line| line.strip_prefix("#define ")?.strip_prefix(name)?.strip_prefix(' '));
+    value.expect(name).parse().expect("a number in decimal")
+}
+
+/// As C has it. A new refusal has to be named here, and so be one of the header's.
+fn name(refusal: Refusal) -> &'static str {
+    match refusal {
+        Refusal::BrakedWeight => "BRAKED_WEIGHT",
+        Refusal::Length => "LENGTH",
+        Refusal::Speed => "SPEED",
+        Refusal::Target => "TARGET",
+        Refusal::Gradient => "GRADIENT",
+        Refusal::Times => "TIMES",
+        Refusal::Sheet => "SHEET",
+        Refusal::Number => "NUMBER",
+        Refusal::Head => "HEAD",
+        Refusal::WeakBrake => "WEAK_BRAKE",
+        Refusal::Room => "ROOM",
+    }
+}
+
+#[test]
+fn refusals() {
+    let wanted = Refusal::ALL.map(|refusal| (name(refusal).to_string(), refusal.number()));
+    assert_eq!(constants("APPROACH_REFUSED_"), wanted);
+    assert_eq!(constants("APPROACH_ACCEPTED"), [(String::new(), 0)]);
+}
+
+#[test]
+fn marks() {
+    let wanted = Mark::ALL.map(|mark| (mark.to_string().to_uppercase(), mark.number()));
+    assert_eq!(constants("APPROACH_MARK_"), wanted);
+}
+
+#[test]
+fn sizes() {
+    assert_eq!(defined("APPROACH_MOST_STRETCHES"), sheet::MOST_STRETCHES);
+    assert_eq!(defined("APPROACH_MOST_SIGNALS"), sheet::MOST_SIGNALS);
+    assert_eq!(defined("APPROACH_LONGEST_ROW"), LONGEST_ROW);
+}
