@@ -143,7 +143,7 @@ static void refusals(void) {
     too_long.length = 1001;
     weak.braked_weight = 45;
     uint32_t row[2] = {7, 7};
-    expect_refusal(1, APPROACH_REFUSED_BRAKED_WEIGHT, approach_step(odd, 90, 0, 0).refusal);
+    expect_refusal(1, APPROACH_REFUSED_WEIGHT, approach_step(odd, 90, 0, 0).refusal);
     expect_refusal(2, APPROACH_REFUSED_LENGTH, approach_step(too_long, 90, 0, 0).refusal);
     expect_refusal(3, APPROACH_REFUSED_SPEED, approach_step(train, 50, 400, 0).refusal);
     expect_refusal(4, APPROACH_REFUSED_TARGET, approach_step(train, 50, 51, 0).refusal);

@@ -22,7 +22,7 @@ extern "C" {
 /* What `refusal` says. Beside each answer's stand the numbers that it can have. */
 enum approach_refusal {
     APPROACH_ACCEPTED = 0,
-    APPROACH_REFUSED_BRAKED_WEIGHT = 1, /* braked weight percentage not 45 to 160 in steps of 5 */
+    APPROACH_REFUSED_WEIGHT = 1,        /* braked weight percentage not 45 to 160 in steps of 5 */
     APPROACH_REFUSED_LENGTH = 2,        /* length over 1,000 m */
     APPROACH_REFUSED_SPEED = 3,         /* top speed not 1 to 330; V, V0, a permitted speed over 330; the ramp's V not 1 to 100 */
     APPROACH_REFUSED_TARGET = 4,        /* V0 above V; in a row, above the top speed */

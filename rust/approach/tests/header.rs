@@ -22,7 +22,7 @@ fn defined(name: &str) -> usize {
 /// As C has it. A new refusal has to be named here, and so be one of the header's.
 fn name(refusal: Refusal) -> &'static str {
     match refusal {
-        Refusal::BrakedWeight => "BRAKED_WEIGHT",
+        Refusal::BrakedWeight => "WEIGHT",
         Refusal::Length => "LENGTH",
         Refusal::Speed => "SPEED",
         Refusal::Target => "TARGET",

@@ -1,0 +1,27 @@
+#!/usr/bin/env python3
+"""tools/needs.py CRATE FUNCTION: each need of a function, with the paths into its `c`, the nearest place first.
+
+First `rt dev CRATE --generated target/gen`. FUNCTION is its folder below proofs/, as `row` or `Mark/step`."""
+import re
+import sys
+
+RECORD = re.compile(r'pub record ([^\s]+)(?: :|\s).*?\n((?:\s+pub (?!record).*\n)+)')
+FIELD = re.compile(r'pub ([^\s]+) : ([^\n]*)')
+NEED = re.compile(r'(Need-[^\s]+) =\s+\(c : ([^\s)]+)\)')
+
+
+def main(crate, function):
+    with open(f'target/gen/Rattle.{crate}.proofs/proofs/{function}/Lts.antt') as file:
+        text = file.read()
+    records = {name: dict(FIELD.findall(fields)) for name, fields in RECORD.findall(text)}
+    for need, place in NEED.findall(text):
+        print(need)
+        path = 'c'
+        while place in records:
+            fields = records[place]
+            print(f"    {path} .{{{', '.join(field for field in fields if field != 'before')}}}")
+            place = fields.get('before', '-').split()[0]
+            path += ' .before'
+
+
+main(*sys.argv[1:])
