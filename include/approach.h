@@ -1,6 +1,6 @@
 /*
  * Approach speeds and stopping distances after RFI TC.SCC SR AV 03 R02 and RFI TC.PATC ST CM 01 M11, proved.
- * Link target/staticlib/libapproach.a, which `rt staticlib approach` writes.
+ * Link target/staticlib/libapproach.a, which `make archives` makes.
  *
  * Every function takes every input and ends. It writes nothing but its answer and, in the rows and the sheet's writer,
  * the places or bytes of lent memory that the answer names; on a refusal, nothing there. A list is a pointer and how many

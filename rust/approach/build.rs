@@ -1,4 +1,4 @@
-//! Links the archive of proved calls, which `rt staticlib approach` writes.
+//! Links the archive of proved calls, which `make archives` makes.
 fn main() {
     let root = std::path::Path::new(env!("CARGO_MANIFEST_DIR")).join("../../target/staticlib");
     let archive = root.join("libapproach.a");

@@ -1,5 +1,5 @@
 //! Approach speeds and stopping distances after RFI TC.SCC SR AV 03 R02 and RFI TC.PATC ST CM 01 M11: a safe wrapper over the
-//! proved calls of `libapproach.a`, which `rt staticlib approach` writes.
+//! proved calls of `libapproach.a`, which `make archives` makes.
 //!
 //! Every call takes every input. It answers, or it says why not by a [`Refusal`], the lowest of document 01's numbers that
 //! applies; memory that is lent is written in the part that is handed back, and nowhere else.

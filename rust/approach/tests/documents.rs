@@ -27,6 +27,16 @@ fn files_shown() {
     }
 }
 
+/// README's map has every crate, in the order of crates.txt.
+#[test]
+fn crates_named() {
+    let listed = include_str!("../../../crates.txt").lines().filter_map(|line| Some(line.split_once(':')?.0));
+    let listed: Vec<&str> = listed.filter(|name| !name.starts_with('#')).collect();
+    let (_, map) = README.split_once("**Arithmetic**").expect("the map");
+    let named: Vec<&str> = map.lines().flat_map(quoted).filter(|word| listed.contains(word)).collect();
+    assert_eq!(named, listed);
+}
+
 /// `*` stands for any name, and what `make` makes is not there yet.
 fn is_path(word: &str) -> bool {
     ["crates/", "docs/", "rust/", "include/", "c/", "tools/"].iter().any(|top| word.starts_with(top))
