@@ -15,8 +15,8 @@ PART = re.compile(r'^(file|old|new):(?: (.*))?$')
 def changes(edit):
     """What the edit makes of each file that it names, and what the files are now."""
     before, after, path, old = {}, {}, None, None
-    for line in edit.read().splitlines():
-        kind, text = PART.match(line).groups(default='')
+    parts = filter(None, map(PART.match, edit.read().splitlines()))
+    for kind, text in (part.groups(default='') for part in parts):
         if kind == 'file':
             path = text
             if path not in before:
