@@ -505,11 +505,12 @@ mod tests {
     #[test]
     fn strokes_apart() {
         let svg = svg(CASES[0]);
-        for curve in CURVES {
+        for (place, curve) in CURVES.into_iter().enumerate() {
             assert_eq!(svg.matches(stroke(curve)).count(), 2, "{curve}");
-            let without_colour = |curve| stroke(curve).split_once(' ').expect("more than a colour").1;
-            let same = CURVES.into_iter().filter(|&other| without_colour(other) == without_colour(curve));
-            assert_eq!(same.count(), 1, "{curve}");
+            let width = |curve| number(stroke(curve), "stroke-width=\"");
+            let dashes = |curve| stroke(curve).split_once("stroke-dasharray=").map(|(_, dashes)| dashes);
+            let apart = |&before: &Curve| width(before) > width(curve) && dashes(before) != dashes(curve);
+            assert!(CURVES[..place].iter().all(apart), "{curve}");
         }
     }
 
