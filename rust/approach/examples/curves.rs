@@ -1,5 +1,5 @@
-//! Draws the EBI, SBI, W and P curves of a train on a gradient as an SVG, speed over distance, the target at the right. `HELP` has
-//! the arguments and the exit statuses.
+//! Draws the EBI, SBI, W and P curves of a train on a gradient as an SVG, speed over distance, the target at the right. `HELP`
+//! has the arguments and the exit statuses.
 use approach::{row, Brake, Curve, Kmh, Metre, Millimetre, PerMille, Train, CURVES};
 use std::cmp::Ordering;
 use std::env;
