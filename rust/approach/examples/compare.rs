@@ -1,14 +1,7 @@
-//! Holds a maker's table of stopping distances to the library's, and prints the lines that are short.
-//!
-//!     compare [ebi|sbi|w|p] < table
-//!
-//! The curve is EBI unless another is named. A line of the table has eight fields, parted by spaces: `passenger` or
-//! `freight`; `ep` where the electropneumatic brake works, else `-`; the braked weight percentage; the length in metres; the
-//! gradient in per mille, positive uphill; V0 and V in km/h; the distance in metres. Empty lines and lines that begin with
-//! `#` are passed over. A line that cannot be judged gets a message, and the rest goes on.
-//!
-//! It ends with status 0 where every line was judged and none is short, and with 1 otherwise.
+//! Holds a maker's table of stopping distances to the library's, and prints the lines that are short. `HELP` has the table's
+//! format and the exit statuses.
 use approach::{step, Curve, Kmh, Metre, PerMille, Train, CURVES};
+use std::env;
 use std::io::{self, BufRead, Write};
 use std::process::ExitCode;
 use std::str::FromStr;
@@ -31,6 +24,38 @@ struct Entry {
 
 /// A single distance may be asked for above a train's top speed, so this one serves for all.
 const TOP_SPEED: Kmh = Kmh(330);
+
+const USAGE: &str = "usage: compare [ebi|sbi|w|p] < table, or compare --help";
+
+const HELP: &str = "\
+usage: compare [ebi|sbi|w|p] < table
+
+Holds a maker's table of stopping distances to the library's, and prints the lines that are short.
+The curve is EBI (emergency brake intervention) unless SBI (service brake intervention), W (warning)
+or P (permitted speed) is named.
+
+A line of the table has eight fields, parted by spaces, such as
+    passenger ep 100 200 0 0 90 842.532
+which are
+    passenger or freight: the brake type
+    ep or -: whether the electropneumatic brake works
+    braked weight percentage, 45 to 160 in steps of 5
+    length in metres
+    gradient in per mille, positive uphill
+    V0, the target speed, in km/h
+    V, the speed, in km/h
+    the distance in metres, at most six decimals after a point
+Empty lines and lines that begin with # are passed over. A line that cannot be judged gets a message,
+and the rest goes on.
+
+exit status
+    0  every line was judged, and none is short
+    1  a line is short or bad, or there is none to judge
+    2  the arguments are wrong, the table cannot be read to its end, or the output was not taken whole
+";
+
+/// For tables from a spreadsheet.
+const HINT: &str = "; fields are parted by spaces, decimals by a point";
 
 fn natural(name: &str, field: &str) -> Result<u32, String> {
     field.parse().map_err(|_| format!("cannot read {name} {field:?} as a whole number from 0 on"))
@@ -104,54 +129,112 @@ struct Count {
 }
 
 impl Count {
-    /// Judges a line, and says what is to be said of it.
+    /// Judges a line, and says what is to be said of it. Of what it repeats, control characters are escaped: a terminal
+    /// would obey them.
     fn line(&mut self, curve: Curve, number: usize, line: &str, out: &mut impl Write) -> io::Result<()> {
         let line = line.trim();
         if line.is_empty() || line.starts_with('#') {
             return Ok(());
         }
+        let shown = line.escape_debug();
         match judged(curve, line) {
             Ok(None) => self.judged += 1,
             Ok(Some(short)) => {
                 self.judged += 1;
                 self.short += 1;
-                writeln!(out, "line {number}: {line}: {short}")?;
+                writeln!(out, "line {number}: {shown}: {short}")?;
             }
             Err(message) => {
                 self.bad += 1;
-                writeln!(out, "line {number}: bad line: {message}")?;
+                let hint = if line.contains([',', ';']) { HINT } else { "" };
+                writeln!(out, "line {number}: {shown}: bad line: {message}{hint}")?;
             }
         }
         Ok(())
     }
+
+    /// An empty table may be what a failed command left, so it is none in order.
+    fn in_order(&self) -> bool {
+        self.judged > 0 && self.short + self.bad == 0
+    }
+
+    fn sum(&self, out: &mut impl Write) -> io::Result<()> {
+        let Count { judged, short, bad } = self;
+        if judged + bad == 0 {
+            writeln!(out, "no line to judge: the table is empty, or has comments only")?;
+        }
+        writeln!(out, "judged: {judged}, short: {short}, bad lines: {bad}")?;
+        out.flush()
+    }
+}
+
+/// Why there is no verdict on a whole table.
+#[derive(Debug)]
+enum Trouble {
+    Arguments(String),
+    Unread(io::Error),
+    Unwritten(io::Error),
+}
+
+impl Trouble {
+    /// Nothing of a reader that has gone, such as `head`: it has what it wanted.
+    fn message(&self) -> Option<String> {
+        match self {
+            Trouble::Arguments(wrong) => Some(format!("{wrong}\n{USAGE}")),
+            Trouble::Unread(error) => Some(format!("cannot read the table: {error}")),
+            Trouble::Unwritten(error) if error.kind() == io::ErrorKind::BrokenPipe => None,
+            Trouble::Unwritten(error) => Some(format!("cannot write: {error}")),
+        }
+    }
 }
 
 /// Any bytes are taken; what is no text in them makes a bad line.
-fn compare(curve: Curve, table: impl BufRead, out: &mut impl Write) -> io::Result<Count> {
+fn compare(curve: Curve, table: impl BufRead, out: &mut impl Write) -> Result<Count, Trouble> {
     let mut count = Count::default();
     for (number, line) in (1..).zip(table.split(b'\n')) {
-        count.line(curve, number, &String::from_utf8_lossy(&line?), out)?;
+        let line = line.map_err(Trouble::Unread)?;
+        count.line(curve, number, &String::from_utf8_lossy(&line), out).map_err(Trouble::Unwritten)?;
     }
-    writeln!(out, "judged: {}, short: {}, bad lines: {}", count.judged, count.short, count.bad)?;
+    count.sum(out).map_err(Trouble::Unwritten)?;
     Ok(count)
 }
 
 /// The curve that the arguments name.
-fn named(mut arguments: impl Iterator<Item = String>) -> Option<Curve> {
-    let curve = match arguments.next() {
-        Some(name) => CURVES.into_iter().find(|curve| curve.to_string().eq_ignore_ascii_case(&name))?,
-        None => Curve::Ebi,
-    };
-    arguments.next().is_none().then_some(curve)
+fn named(arguments: &[String]) -> Result<Curve, Trouble> {
+    match arguments {
+        [] => Ok(Curve::Ebi),
+        [name] => {
+            let curve = CURVES.into_iter().find(|curve| curve.to_string().eq_ignore_ascii_case(name));
+            curve.ok_or_else(|| Trouble::Arguments(format!("there is no curve {name:?}")))
+        }
+        [_, more, ..] => Err(Trouble::Arguments(format!("one curve at a time: {more:?} is too much"))),
+    }
 }
 
-fn main() -> io::Result<ExitCode> {
-    let Some(curve) = named(std::env::args().skip(1)) else {
-        eprintln!("usage: compare [ebi|sbi|w|p] < table");
-        return Ok(ExitCode::from(2));
-    };
-    let count = compare(curve, io::stdin().lock(), &mut io::stdout().lock())?;
-    Ok(ExitCode::from(u8::from(count.short + count.bad > 0)))
+/// Whether the table is in order; being asked for help always is.
+fn run(arguments: &[String], table: impl BufRead, out: &mut impl Write) -> Result<bool, Trouble> {
+    if arguments.iter().any(|argument| argument == "--help" || argument == "-h") {
+        out.write_all(HELP.as_bytes()).and_then(|()| out.flush()).map_err(Trouble::Unwritten)?;
+        return Ok(true);
+    }
+    compare(named(arguments)?, table, out).map(|count| count.in_order())
+}
+
+fn status(verdict: &Result<bool, Trouble>) -> u8 {
+    match verdict {
+        Ok(true) => 0,
+        Ok(false) => 1,
+        Err(_) => 2,
+    }
+}
+
+fn main() -> ExitCode {
+    let arguments: Vec<String> = env::args_os().skip(1).map(|word| word.to_string_lossy().into_owned()).collect();
+    let verdict = run(&arguments, io::stdin().lock(), &mut io::stdout().lock());
+    if let Some(message) = verdict.as_ref().err().and_then(Trouble::message) {
+        eprintln!("compare: {message}");
+    }
+    ExitCode::from(status(&verdict))
 }
 
 #[cfg(test)]
@@ -211,27 +294,123 @@ mod tests {
             ("freight - 100 200 0 0 9.5 1", "cannot read V \"9.5\" as a whole number from 0 on"),
             ("freight - 100 200 36 0 90 1", "the gradient is not from -35 to 35 per mille (refusal 5)"),
         ] {
-            let said = format!("line 2: bad line: {message}\njudged: 0, short: 0, bad lines: 1\n");
+            let shown = line.escape_debug();
+            let said = format!("line 2: {shown}: bad line: {message}\njudged: 0, short: 0, bad lines: 1\n");
             assert_eq!(compared(Curve::W, format!("\n{line}").as_bytes()), said);
         }
         for distance in ["1,5", "-1", "1.", ".5", "1.0000001", "1e3", "20000000000000000000", "18446744073709552"] {
             let said = compared(Curve::Sbi, format!("freight - 100 200 0 0 90 {distance}").as_bytes());
-            assert!(said.starts_with(&format!("line 1: bad line: cannot read the distance \"{distance}\"")), "{said}");
+            assert!(said.contains(&format!("{distance}: bad line: cannot read the distance \"{distance}\"")), "{said}");
+        }
+    }
+
+    /// Of what an escape sequence, a carriage return or a bell would do to a terminal, nothing is left, in short lines neither.
+    #[test]
+    fn what_is_no_text() {
+        let said = compared(Curve::Ebi, b"\xff\xfe\n# \xff\n\r\n   \npassenger ep 100 200 0 0 90 1000\r\n");
+        let bad = "line 1: \u{fffd}\u{fffd}: bad line: 1 fields where a line has 8\n";
+        assert_eq!(said, format!("{bad}judged: 1, short: 0, bad lines: 1\n"));
+        let said = compared(Curve::Ebi, "\x1b[2J\x07 caff\u{e8}\npassenger\tep\r100\x0c200 0 0 90 1\n".as_bytes());
+        assert!(said.starts_with("line 1: \\u{1b}[2J\\u{7} caff\u{e8}: bad line: "), "{said}");
+        assert!(said.contains("line 2: passenger\\tep\\r100\\u{c}200 0 0 90 1: short by "), "{said}");
+        assert!(said.lines().all(|line| !line.contains(char::is_control)), "{said}");
+    }
+
+    #[test]
+    fn from_a_spreadsheet() {
+        for line in
+            ["freight,-,100,200,0,0,90,842.532", "freight;-;100;200;0;0;90;842.532", "freight - 100 200 0 0 90 842,532"]
+        {
+            let said = compared(Curve::Ebi, line.as_bytes());
+            let first = said.lines().next().expect("a line");
+            assert!(first.ends_with("; fields are parted by spaces, decimals by a point"), "{said}");
+        }
+        assert!(!compared(Curve::Ebi, b"freight - 100 200 0 0 90 842:532").contains("parted by"));
+    }
+
+    #[test]
+    fn nothing_to_judge() {
+        for table in ["", "\n \r\n", "# EBI distances of a maker\n"] {
+            let said = compared(Curve::Ebi, table.as_bytes());
+            let none = "no line to judge: the table is empty, or has comments only\n";
+            assert_eq!(said, format!("{none}judged: 0, short: 0, bad lines: 0\n"), "{table:?}");
+        }
+    }
+
+    fn words(line: &str) -> Vec<String> {
+        line.split_whitespace().map(str::to_owned).collect()
+    }
+
+    /// 842.532 m is just enough for EBI and short for SBI.
+    #[test]
+    fn statuses() {
+        let line = "passenger ep 100 200 0 0 90 842.532\n";
+        assert!(HELP.contains(line));
+        for (arguments, table, wanted) in [
+            ("", line, 0),
+            ("--help", "", 0),
+            ("w -h", "", 0),
+            ("sbi", line, 1),
+            ("", "", 1),
+            ("", "# none\n", 1),
+            ("", "passenger ep 100 200 0 0 90\n", 1),
+            ("x", line, 2),
+            ("w p", line, 2),
+        ] {
+            let verdict = run(&words(arguments), table.as_bytes(), &mut Vec::new());
+            assert_eq!(status(&verdict), wanted, "{arguments:?} {table:?}");
         }
     }
 
     #[test]
-    fn what_is_no_text() {
-        let said = compared(Curve::Ebi, b"\xff\xfe\n# \xff\n\r\n   \npassenger ep 100 200 0 0 90 1000\r\n");
-        assert_eq!(said, "line 1: bad line: 1 fields where a line has 8\njudged: 1, short: 0, bad lines: 1\n");
-        assert_eq!(compared(Curve::Ebi, b""), "judged: 0, short: 0, bad lines: 0\n");
+    fn help_is_written() {
+        let mut out = Vec::new();
+        assert!(run(&words("--help"), io::empty(), &mut out).expect("help"));
+        assert_eq!(out, HELP.as_bytes());
+    }
+
+    /// Fails each time it is read or written.
+    struct Broken(io::ErrorKind);
+
+    impl io::Read for Broken {
+        fn read(&mut self, _: &mut [u8]) -> io::Result<usize> {
+            Err(self.0.into())
+        }
+    }
+
+    impl Write for Broken {
+        fn write(&mut self, _: &[u8]) -> io::Result<usize> {
+            Err(self.0.into())
+        }
+
+        fn flush(&mut self) -> io::Result<()> {
+            Ok(())
+        }
+    }
+
+    /// A closed pipe is not spoken of, and is no table in order; help gets the same.
+    #[test]
+    fn not_to_the_end() {
+        let line = b"passenger ep 100 200 0 0 90 842.532\n";
+        for arguments in ["", "--help"] {
+            let closed = run(&words(arguments), &line[..], &mut Broken(io::ErrorKind::BrokenPipe));
+            assert_eq!((status(&closed), closed.expect_err("a closed pipe").message()), (2, None));
+            let full = run(&words(arguments), &line[..], &mut Broken(io::ErrorKind::StorageFull));
+            let message = full.expect_err("a full disk").message().expect("a message");
+            assert!(message.starts_with("cannot write: "), "{message}");
+        }
+        let unread = run(&[], io::BufReader::new(Broken(io::ErrorKind::IsADirectory)), &mut Vec::new());
+        assert_eq!(status(&unread), 2);
+        let message = unread.expect_err("a directory").message().expect("a message");
+        assert!(message.starts_with("cannot read the table: "), "{message}");
     }
 
     #[test]
     fn names_of_curves() {
-        let named = |words: &[&str]| named(words.iter().map(|word| word.to_string()));
-        assert_eq!(named(&[]), Some(Curve::Ebi));
-        assert_eq!(["ebi", "sbi", "w", "P"].map(|word| named(&[word])), CURVES.map(Some));
-        assert_eq!([&["x"][..], &["w", "p"]].map(named), [None, None]);
+        let named = |line| named(&words(line)).map_err(|trouble| trouble.message().expect("a message"));
+        assert_eq!(named(""), Ok(Curve::Ebi));
+        assert_eq!(["ebi", "sbi", "w", "P"].map(named), CURVES.map(Ok));
+        assert_eq!(named("x"), Err(format!("there is no curve \"x\"\n{USAGE}")));
+        assert_eq!(named("w p"), Err(format!("one curve at a time: \"p\" is too much\n{USAGE}")));
     }
 }

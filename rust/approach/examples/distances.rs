@@ -1,5 +1,6 @@
 //! The distances of one train, the ceilings of the speeds it comes from, and how far it gets past a closed signal.
 use approach::{ceilings, ramp, step, Brake, Hundredth, Kmh, Metre, PerMille, Refusal, Times, Train};
+use std::fmt::Display;
 
 const TRAIN: Train = Train {
     brake: Brake::Passenger,
@@ -9,38 +10,87 @@ const TRAIN: Train = Train {
     top_speed: Kmh(160),
 };
 
-fn braked() -> Result<(), Refusal> {
-    println!("A passenger train with its electropneumatic brake working, braked weight 100 %, {},", TRAIN.length);
-    println!("down a grade of 5 per mille to a stop: its distances, and beside them the ceilings.");
-    println!("{:>8}  {:>11} {:>11} {:>11} {:>11}", "from", "EBI", "SBI", "W", "P");
+/// The figure of a quantity; its unit stands over the column.
+fn figure(quantity: impl Display) -> String {
+    quantity.to_string().split(' ').take(1).collect()
+}
+
+fn line(cells: &[impl Display]) -> String {
+    cells.iter().map(|cell| format!("{cell:>10}")).collect::<String>() + "\n"
+}
+
+fn braked() -> Result<String, Refusal> {
+    let mut out =
+        format!("A passenger train with its electropneumatic brake working, braked weight 100 %, {},\n", TRAIN.length);
+    out += "down a grade of 5 per mille to a stop: its distances, and beside them the ceilings.\n";
+    out += &format!("{:10}  {:-^38}  {:-^28}\n", "", " distances ", " ceilings ");
+    out += &line(&["from", "EBI", "SBI", "W", "P", "W", "SBI", "EBI"]);
+    out += &line(&["km/h", "m", "m", "m", "m", "km/h", "km/h", "km/h"]);
     for v in (0..=TRAIN.top_speed.0).step_by(20).map(Kmh) {
         let d = step(TRAIN, v, Kmh(0), PerMille(-5))?;
         let c = ceilings(v)?;
-        print!("{v:>8}  {:>11} {:>11} {:>11} {:>11}", d.ebi, d.sbi, d.w, d.p);
-        println!("  {:>12} {:>12} {:>12}", c.w, c.sbi, c.ebi);
+        let distances = [d.ebi, d.sbi, d.w, d.p].map(figure);
+        let ceilings = [c.w, c.sbi, c.ebi].map(figure);
+        out += &line(&[&[figure(v)], &distances[..], &ceilings[..]].concat());
     }
-    Ok(())
+    Ok(out)
 }
 
-fn refused() {
+fn refused() -> String {
     let weak = step(Train { braked_weight: 45, ..TRAIN }, Kmh(60), Kmh(0), PerMille(-19));
-    println!("With braked weight 45 % down 19 per mille: {}.", weak.expect_err("a brake that is too weak"));
+    format!("With braked weight 45 % down 19 per mille: {}.\n", weak.expect_err("a brake that is too weak"))
 }
 
-fn past_the_signal() -> Result<(), Refusal> {
-    println!("Past a closed signal with dead time TM and rise time TR: how far, and when.");
-    println!("{:>8} {:>6} {:>8} {:>8} {:>10} {:>9}", "from", "on", "TM", "TR", "stops at", "after");
+fn past_the_signal() -> Result<String, Refusal> {
+    let mut out = "Past a closed signal with dead time TM and rise time TR: how far, and when.\n".to_owned();
+    out += &line(&["from", "gradient", "TM", "TR", "stops at", "after"]);
+    out += &line(&["km/h", "‰", "s", "s", "m", "s"]);
     for (v, gradient, tm, tr) in [(36, 0, 200, 400), (1, 0, 0, 3000), (1, 35, 2000, 1), (30, -20, 300, 460)] {
         let (v, gradient, times) = (Kmh(v), PerMille(gradient), Times { dead: Hundredth(tm), rise: Hundredth(tr) });
         let stop = ramp(TRAIN.braked_weight, gradient, v, times)?;
-        let Times { dead, rise } = times;
-        println!("{v:>8} {gradient:>6} {dead:>8} {rise:>8} {:>10} {:>9}", stop.distance, stop.moment);
+        let [dead, rise] = [times.dead, times.rise].map(figure);
+        out += &line(&[figure(v), figure(gradient), dead, rise, figure(stop.distance), figure(stop.moment)]);
     }
-    Ok(())
+    Ok(out)
 }
 
 fn main() -> Result<(), Refusal> {
-    braked()?;
-    refused();
-    past_the_signal()
+    print!("{}{}{}", braked()?, refused(), past_the_signal()?);
+    Ok(())
+}
+
+#[cfg(test)]
+mod tests {
+    use super::*;
+
+    /// The table's lines from its headings on, each of which has a name and a unit for every column; columns are 10 wide.
+    fn columns(table: &str, headings: &[&str]) {
+        let (heads, lines): (Vec<&str>, Vec<&str>) = table.lines().partition(|line| headings.contains(line));
+        assert_eq!(heads, headings);
+        let width = headings[0].chars().count();
+        let figures: Vec<&str> = lines.into_iter().filter(|line| line.starts_with(' ')).collect();
+        assert!(figures.len() > 3, "{table}");
+        assert!(figures.iter().all(|line| line.chars().count() == width), "{table}");
+        assert!(figures.iter().all(|line| 10 * line.split_whitespace().count() == width), "{table}");
+    }
+
+    #[test]
+    fn every_column_has_a_heading() {
+        let distances = [
+            "            ------------- distances --------------  --------- ceilings ---------",
+            "      from       EBI       SBI         W         P         W       SBI       EBI",
+            "      km/h         m         m         m         m      km/h      km/h      km/h",
+        ];
+        columns(&braked().expect("an accepted train"), &distances);
+        let stops = [
+            "      from  gradient        TM        TR  stops at     after",
+            "      km/h         \u{2030}         s         s         m         s",
+        ];
+        columns(&past_the_signal().expect("accepted times"), &stops);
+    }
+
+    #[test]
+    fn figures_without_units() {
+        assert_eq!([figure(Kmh(90)), figure(PerMille(-5)), figure(Hundredth(460))], ["90", "-5", "4.60"]);
+    }
 }
