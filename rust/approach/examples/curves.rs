@@ -1,6 +1,6 @@
 //! Draws the EBI, SBI, W and P curves of a train on a gradient as an SVG, speed over distance, the target at the right. `HELP`
 //! has the arguments and the exit statuses.
-use approach::{row, Brake, Curve, Kmh, Metre, Millimetre, PerMille, Train, CURVES};
+use approach::{row, Brake, Curve, Kmh, Metre, Millimetre, PerMille, Train, CURVES, LONGEST_ROW};
 use std::cmp::Ordering;
 use std::env;
 use std::fmt::Write as _;
@@ -99,7 +99,7 @@ impl Picture {
         let Case { train, gradient, target } = case;
         let top_speed = train.top_speed;
         let [ebi, sbi, w, p] = CURVES.map(|curve| {
-            let mut list = [Millimetre(0); 331];
+            let mut list = [Millimetre(0); LONGEST_ROW];
             let row = row(curve, train, target, gradient, &mut list);
             row.map(<[Millimetre]>::to_vec).map_err(|refusal| refusal.to_string())
         });
