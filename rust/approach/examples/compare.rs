@@ -1,7 +1,9 @@
 //! Holds a maker's table of stopping distances to the library's, and prints the lines that are short. `HELP` has the table's
 //! format and the exit statuses.
+mod command;
+
 use approach::{step, Curve, Kmh, Metre, PerMille, Train, CURVES};
-use std::env;
+use command::{natural, whole, Trouble};
 use std::io::{self, BufRead, Write};
 use std::process::ExitCode;
 use std::str::FromStr;
@@ -57,14 +59,6 @@ exit status
 /// For tables from a spreadsheet.
 const HINT: &str = "; fields are parted by spaces, decimals by a point";
 
-fn natural(name: &str, field: &str) -> Result<u32, String> {
-    field.parse().map_err(|_| format!("cannot read {name} {field:?} as a whole number from 0 on"))
-}
-
-fn per_mille(field: &str) -> Result<PerMille, String> {
-    field.parse().map(PerMille).map_err(|_| format!("cannot read the gradient {field:?} as a whole number"))
-}
-
 fn digits(text: &str) -> bool {
     !text.is_empty() && text.bytes().all(|byte| byte.is_ascii_digit())
 }
@@ -90,17 +84,12 @@ fn entry(line: &str) -> Result<Entry, String> {
     let [brake, ep, braked_weight, length, gradient, target, v, distance] = fields[..] else {
         return Err(format!("{} fields where a line has 8", fields.len()));
     };
-    let brake = brake.parse()?;
-    let electropneumatic = match ep {
-        "ep" => true,
-        "-" => false,
-        _ => return Err(format!("{ep:?} stands where ep or - is wanted")),
-    };
+    let (brake, electropneumatic) = (brake.parse()?, command::electropneumatic(ep)?);
     let braked_weight = natural("the braked weight", braked_weight)?;
     let length = Metre(natural("the length", length)?);
     Ok(Entry {
         train: Train { brake, electropneumatic, braked_weight, length, top_speed: TOP_SPEED },
-        gradient: per_mille(gradient)?,
+        gradient: PerMille(whole("the gradient", gradient)?),
         target: Kmh(natural("V0", target)?),
         v: Kmh(natural("V", v)?),
         distance: distance.parse()?,
@@ -131,7 +120,7 @@ struct Count {
 impl Count {
     /// Judges a line, and says what is to be said of it. Of what it repeats, control characters are escaped: a terminal
     /// would obey them.
-    fn line(&mut self, curve: Curve, number: usize, line: &str, out: &mut impl Write) -> io::Result<()> {
+    fn line(&mut self, curve: Curve, number: usize, line: &str, out: &mut dyn Write) -> io::Result<()> {
         let line = line.trim();
         if line.is_empty() || line.starts_with('#') {
             return Ok(());
@@ -158,7 +147,7 @@ impl Count {
         self.judged > 0 && self.short + self.bad == 0
     }
 
-    fn sum(&self, out: &mut impl Write) -> io::Result<()> {
+    fn sum(&self, out: &mut dyn Write) -> io::Result<()> {
         let Count { judged, short, bad } = self;
         if judged + bad == 0 {
             writeln!(out, "no line to judge: the table is empty, or has comments only")?;
@@ -168,78 +157,46 @@ impl Count {
     }
 }
 
-/// Why there is no verdict on a whole table.
-#[derive(Debug)]
-enum Trouble {
-    Arguments(String),
-    Unread(io::Error),
-    Unwritten(io::Error),
-}
-
-impl Trouble {
-    /// Nothing of a reader that has gone, such as `head`: it has what it wanted.
-    fn message(&self) -> Option<String> {
-        match self {
-            Trouble::Arguments(wrong) => Some(format!("{wrong}\n{USAGE}")),
-            Trouble::Unread(error) => Some(format!("cannot read the table: {error}")),
-            Trouble::Unwritten(error) if error.kind() == io::ErrorKind::BrokenPipe => None,
-            Trouble::Unwritten(error) => Some(format!("cannot write: {error}")),
-        }
-    }
-}
-
 /// Any bytes are taken; what is no text in them makes a bad line.
-fn compare(curve: Curve, table: impl BufRead, out: &mut impl Write) -> Result<Count, Trouble> {
+fn compare(curve: Curve, table: impl BufRead, out: &mut dyn Write) -> Result<Count, Trouble> {
     let mut count = Count::default();
     for (number, line) in (1..).zip(table.split(b'\n')) {
-        let line = line.map_err(Trouble::Unread)?;
-        count.line(curve, number, &String::from_utf8_lossy(&line), out).map_err(Trouble::Unwritten)?;
+        let line = line.map_err(|error| Trouble::said(2, format!("cannot read the table: {error}")))?;
+        count.line(curve, number, &String::from_utf8_lossy(&line), out).map_err(Trouble::with_output)?;
     }
-    count.sum(out).map_err(Trouble::Unwritten)?;
+    count.sum(out).map_err(Trouble::with_output)?;
     Ok(count)
 }
 
 /// The curve that the arguments name.
 fn named(arguments: &[String]) -> Result<Curve, Trouble> {
-    match arguments {
-        [] => Ok(Curve::Ebi),
-        [name] => {
-            let curve = CURVES.into_iter().find(|curve| curve.to_string().eq_ignore_ascii_case(name));
-            curve.ok_or_else(|| Trouble::Arguments(format!("there is no curve {name:?}")))
-        }
-        [_, more, ..] => Err(Trouble::Arguments(format!("one curve at a time: {more:?} is too much"))),
-    }
+    let wrong = match arguments {
+        [] => return Ok(Curve::Ebi),
+        [name] => match CURVES.into_iter().find(|curve| curve.to_string().eq_ignore_ascii_case(name)) {
+            Some(curve) => return Ok(curve),
+            None => format!("there is no curve {name:?}"),
+        },
+        [_, more, ..] => format!("one curve at a time: {more:?} is too much"),
+    };
+    Err(Trouble::with_arguments(wrong, USAGE))
 }
 
-/// Whether the table is in order; being asked for help always is.
-fn run(arguments: &[String], table: impl BufRead, out: &mut impl Write) -> Result<bool, Trouble> {
-    if arguments.iter().any(|argument| argument == "--help" || argument == "-h") {
-        out.write_all(HELP.as_bytes()).and_then(|()| out.flush()).map_err(Trouble::Unwritten)?;
-        return Ok(true);
+/// The status: 0 of a table in order, and of help.
+fn run(arguments: &[String], table: impl BufRead, out: &mut dyn Write) -> Result<u8, Trouble> {
+    if command::ask_for_help(arguments) {
+        return command::write(out, HELP).map(|()| 0);
     }
-    compare(named(arguments)?, table, out).map(|count| count.in_order())
-}
-
-fn status(verdict: &Result<bool, Trouble>) -> u8 {
-    match verdict {
-        Ok(true) => 0,
-        Ok(false) => 1,
-        Err(_) => 2,
-    }
+    compare(named(arguments)?, table, out).map(|count| u8::from(!count.in_order()))
 }
 
 fn main() -> ExitCode {
-    let arguments: Vec<String> = env::args_os().skip(1).map(|word| word.to_string_lossy().into_owned()).collect();
-    let verdict = run(&arguments, io::stdin().lock(), &mut io::stdout().lock());
-    if let Some(message) = verdict.as_ref().err().and_then(Trouble::message) {
-        eprintln!("compare: {message}");
-    }
-    ExitCode::from(status(&verdict))
+    command::end("compare", run(&command::arguments(), io::stdin().lock(), &mut io::stdout().lock()))
 }
 
 #[cfg(test)]
 mod tests {
     use super::*;
+    use command::tests::words;
 
     fn compared(curve: Curve, table: &[u8]) -> String {
         let mut out = Vec::new();
@@ -337,10 +294,6 @@ mod tests {
         }
     }
 
-    fn words(line: &str) -> Vec<String> {
-        line.split_whitespace().map(str::to_owned).collect()
-    }
-
     /// 842.532 m is just enough for EBI and short for SBI.
     #[test]
     fn statuses() {
@@ -357,57 +310,41 @@ mod tests {
             ("x", line, 2),
             ("w p", line, 2),
         ] {
-            let verdict = run(&words(arguments), table.as_bytes(), &mut Vec::new());
-            assert_eq!(status(&verdict), wanted, "{arguments:?} {table:?}");
+            let ending = run(&words(arguments), table.as_bytes(), &mut Vec::new());
+            assert_eq!(ending.unwrap_or_else(|trouble| trouble.status), wanted, "{arguments:?} {table:?}");
         }
     }
 
     #[test]
     fn help_is_written() {
         let mut out = Vec::new();
-        assert!(run(&words("--help"), io::empty(), &mut out).expect("help"));
+        run(&words("--help"), io::empty(), &mut out).expect("help");
         assert_eq!(out, HELP.as_bytes());
     }
 
-    /// Fails each time it is read or written.
-    struct Broken(io::ErrorKind);
+    /// As a directory is.
+    struct Unreadable;
 
-    impl io::Read for Broken {
+    impl io::Read for Unreadable {
         fn read(&mut self, _: &mut [u8]) -> io::Result<usize> {
-            Err(self.0.into())
+            Err(io::ErrorKind::IsADirectory.into())
         }
     }
 
-    impl Write for Broken {
-        fn write(&mut self, _: &[u8]) -> io::Result<usize> {
-            Err(self.0.into())
-        }
-
-        fn flush(&mut self) -> io::Result<()> {
-            Ok(())
-        }
-    }
-
-    /// A closed pipe is not spoken of, and is no table in order; help gets the same.
     #[test]
     fn not_to_the_end() {
-        let line = b"passenger ep 100 200 0 0 90 842.532\n";
         for arguments in ["", "--help"] {
-            let closed = run(&words(arguments), &line[..], &mut Broken(io::ErrorKind::BrokenPipe));
-            assert_eq!((status(&closed), closed.expect_err("a closed pipe").message()), (2, None));
-            let full = run(&words(arguments), &line[..], &mut Broken(io::ErrorKind::StorageFull));
-            let message = full.expect_err("a full disk").message().expect("a message");
-            assert!(message.starts_with("cannot write: "), "{message}");
+            let line = b"passenger ep 100 200 0 0 90 842.532\n";
+            command::tests::not_to_the_end(|out| run(&words(arguments), &line[..], out));
         }
-        let unread = run(&[], io::BufReader::new(Broken(io::ErrorKind::IsADirectory)), &mut Vec::new());
-        assert_eq!(status(&unread), 2);
-        let message = unread.expect_err("a directory").message().expect("a message");
-        assert!(message.starts_with("cannot read the table: "), "{message}");
+        let Trouble { status, message } =
+            run(&[], io::BufReader::new(Unreadable), &mut Vec::new()).expect_err("a directory");
+        assert!(status == 2 && message.is_some_and(|message| message.starts_with("cannot read the table: ")));
     }
 
     #[test]
     fn names_of_curves() {
-        let named = |line| named(&words(line)).map_err(|trouble| trouble.message().expect("a message"));
+        let named = |line| named(&words(line)).map_err(|trouble| trouble.message.expect("a message"));
         assert_eq!(named(""), Ok(Curve::Ebi));
         assert_eq!(["ebi", "sbi", "w", "P"].map(named), CURVES.map(Ok));
         assert_eq!(named("x"), Err(format!("there is no curve \"x\"\n{USAGE}")));
