@@ -4,7 +4,8 @@
  *
  * Every function takes every input and ends. It writes nothing but its answer and, in the rows and the sheet's writer,
  * the places or bytes of lent memory that the answer names; on a refusal, nothing there. A list is a pointer and how many
- * elements lie behind it; no two lists of one call may overlap where one of them is written.
+ * elements lie behind it, never NULL, also where there are none; no two lists of one call may overlap where one of them
+ * is written.
  *
  * Every answer begins with `refusal`: 0 where it is accepted, else the lowest number that applies, and all else is 0.
  */
@@ -31,7 +32,9 @@ enum approach_refusal {
     APPROACH_REFUSED_SHEET = 7,         /* the bytes are no line sheet, or the fields make none */
     APPROACH_REFUSED_NUMBER = 8,        /* no such signal or stretch */
     APPROACH_REFUSED_HEAD = 9,          /* head beyond the signal */
-    APPROACH_REFUSED_WEAK_BRAKE = 10,   /* brake and slope together decelerate by less than 0.05 m/s2, in a model consulted */
+    /* Brake and slope together decelerate by less than 0.05 m/s2, in a model consulted. The brake counts least at V0, and there
+     * a row and a query decide (a query's V0 is its release speed): a single distance from a higher V may be accepted. */
+    APPROACH_REFUSED_WEAK_BRAKE = 10,
     APPROACH_REFUSED_ROOM = 11,         /* the list or buffer is too short for the output */
 };
 
@@ -145,7 +148,7 @@ struct approach_answer {
     uint32_t ebi;
 };
 
-/* Distances from V to the target V0, both in km/h; the gradient in per mille, positive uphill. */
+/* Distances from V to the target V0, both in km/h; the gradient in per mille, positive uphill. V may be above the top speed. */
 struct approach_distances approach_step(struct approach_train train, uint32_t v, uint32_t v0, int32_t gradient);
 
 /* The most places that a row takes: from V0 0 to a top speed of 330. */
@@ -157,7 +160,8 @@ struct approach_written approach_row_sbi(struct approach_train train, uint32_t v
 struct approach_written approach_row_w(struct approach_train train, uint32_t v0, int32_t gradient, uint32_t *row, size_t places);
 struct approach_written approach_row_p(struct approach_train train, uint32_t v0, int32_t gradient, uint32_t *row, size_t places);
 
-/* The way past a closed signal from V in km/h; dead time TM and rise time TR in hundredths of a second. */
+/* The way past a closed signal from V in km/h. For the dead time TM, 0 to 2,000, the brake does nothing; in the rise time TR,
+ * 1 to 3,000, it comes up to all it has; both in hundredths of a second. */
 struct approach_stop approach_ramp(uint32_t braked_weight, int32_t gradient, uint32_t v, uint32_t tm, uint32_t tr);
 
 /* The ceilings of a permitted speed in km/h. */
@@ -177,7 +181,8 @@ struct approach_signal approach_sheet_signal(const uint8_t *sheet, size_t length
 /* The next stretch along the sheet. */
 struct approach_move approach_sheet_next(const uint8_t *sheet, size_t length, struct approach_mark mark);
 
-/* The approach to the signal of a number, from 0, with the head at a place in metres; TM and TR as above. */
+/* The approach to the signal of a number, from 0, with the head at a place in metres. The train brakes to the release speed on
+ * the least gradient from the head to the signal, and past the signal on the least along the overlap; TM and TR as above. */
 struct approach_answer approach_query(
     struct approach_train train, uint32_t tm, uint32_t tr, const uint8_t *sheet, size_t length, uint32_t signal, uint32_t head);
 

@@ -8,6 +8,7 @@ use Rattle.ceilings.specs.declared.Band.{Band}
 use Rattle.ceilings.specs.declared.Ceiling.{Ceiling}
 use Rattle.ceilings.specs.declared.Limits.{Limits}
 
+-- what each ceiling adds up to 110 km/h, its growth for each km/h from there on, and where that ends
 abbrev pub w : Band
 w = record { least = 480; growth = 4; end = kmh 140 }
 

@@ -26,6 +26,7 @@ module _ (t : Train) where
   abbrev pub freightDelay : Fraction
   freightDelay = rowDelay Freight (t .length)
 
+  -- a freight train's is the larger of both rows
   abbrev pub delayBy : BrakeType → Fraction
   delayBy Passenger = passengerDelay
   delayBy Freight = maxq passengerDelay freightDelay

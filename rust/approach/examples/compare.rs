@@ -67,7 +67,7 @@ impl FromStr for Micrometre {
     type Err = String;
 
     fn from_str(field: &str) -> Result<Micrometre, String> {
-        let bad = || format!("cannot read the distance {field:?} as metres, such as 842.532");
+        let bad = || format!("cannot read the distance {field:?} as metres with at most six decimals, such as 842.532");
         let (metres, decimals) = field.split_once('.').unwrap_or((field, "0"));
         if !digits(metres) || !digits(decimals) || decimals.len() > DECIMALS {
             return Err(bad());
@@ -82,7 +82,7 @@ impl FromStr for Micrometre {
 fn entry(line: &str) -> Result<Entry, String> {
     let fields: Vec<&str> = line.split_whitespace().collect();
     let [brake, ep, braked_weight, length, gradient, target, v, distance] = fields[..] else {
-        return Err(format!("{} fields where a line has 8", fields.len()));
+        return Err(format!("fields: {}, where a line has 8", fields.len()));
     };
     let (brake, electropneumatic) = (brake.parse()?, command::electropneumatic(ep)?);
     let braked_weight = natural("the braked weight", braked_weight)?;
@@ -118,10 +118,10 @@ struct Count {
 }
 
 impl Count {
-    /// Judges a line, and says what is to be said of it. Of what it repeats, control characters are escaped: a terminal
-    /// would obey them.
+    /// Judges a line, and says what is to be said of it. A byte order mark, with which spreadsheets begin a file, is passed
+    /// over. Of what is repeated, control characters are escaped: a terminal would obey them.
     fn line(&mut self, curve: Curve, number: usize, line: &str, out: &mut dyn Write) -> io::Result<()> {
-        let line = line.trim();
+        let line = line.trim_start_matches('\u{feff}').trim();
         if line.is_empty() || line.starts_with('#') {
             return Ok(());
         }
@@ -147,12 +147,12 @@ impl Count {
         self.judged > 0 && self.short + self.bad == 0
     }
 
-    fn sum(&self, out: &mut dyn Write) -> io::Result<()> {
+    fn sum(&self, curve: Curve, out: &mut dyn Write) -> io::Result<()> {
         let Count { judged, short, bad } = self;
         if judged + bad == 0 {
             writeln!(out, "no line to judge: the table is empty, or has comments only")?;
         }
-        writeln!(out, "judged: {judged}, short: {short}, bad lines: {bad}")?;
+        writeln!(out, "{curve} judged: {judged}, short: {short}, bad lines: {bad}")?;
         out.flush()
     }
 }
@@ -164,7 +164,7 @@ fn compare(curve: Curve, table: impl BufRead, out: &mut dyn Write) -> Result<Cou
         let line = line.map_err(|error| Trouble::said(2, format!("cannot read the table: {error}")))?;
         count.line(curve, number, &String::from_utf8_lossy(&line), out).map_err(Trouble::with_output)?;
     }
-    count.sum(out).map_err(Trouble::with_output)?;
+    count.sum(curve, out).map_err(Trouble::with_output)?;
     Ok(count)
 }
 
@@ -217,7 +217,7 @@ mod tests {
         let line = |distance: &str| format!("passenger ep 100 200 0 0 90 {distance}\n");
         let short = |curve, distance| compared(curve, line(distance).as_bytes());
         for distance in ["842.532", "842.5320", "842.532000", "842.532001", "843", "0842.532", "99999999"] {
-            assert_eq!(short(Curve::Ebi, distance), "judged: 1, short: 0, bad lines: 0\n", "{distance}");
+            assert_eq!(short(Curve::Ebi, distance), "EBI judged: 1, short: 0, bad lines: 0\n", "{distance}");
         }
         for (curve, distance, by) in [
             (Curve::Ebi, "842.531", "1 mm"),
@@ -229,20 +229,16 @@ mod tests {
         ] {
             let said = short(curve, distance);
             assert!(said.contains(&format!(": short by {by}, it takes ")), "{said}");
-            assert!(said.ends_with("judged: 1, short: 1, bad lines: 0\n"), "{said}");
+            assert!(said.ends_with(&format!("\n{curve} judged: 1, short: 1, bad lines: 0\n")), "{said}");
         }
     }
 
     #[test]
     fn bad_lines() {
         for (line, message) in [
-            ("passenger ep 100 200 0 0 90", "7 fields where a line has 8"),
-            ("passenger ep 100 200 0 0 90 1 m", "9 fields where a line has 8"),
+            ("passenger ep 100 200 0 0 90", "fields: 7, where a line has 8"),
+            ("passenger ep 100 200 0 0 90 1 m", "fields: 9, where a line has 8"),
             ("tram ep 100 200 0 0 90 1", "the brake type \"tram\" is neither passenger nor freight"),
-            (
-                "\u{feff}freight - 100 200 0 0 90 1",
-                "the brake type \"\\u{feff}freight\" is neither passenger nor freight",
-            ),
             ("freight yes 100 200 0 0 90 1", "\"yes\" stands where ep or - is wanted"),
             ("freight - -5 200 0 0 90 1", "cannot read the braked weight \"-5\" as a whole number from 0 on"),
             ("freight - 100 4294967296 0 0 90 1", "cannot read the length \"4294967296\" as a whole number from 0 on"),
@@ -252,7 +248,7 @@ mod tests {
             ("freight - 100 200 36 0 90 1", "the gradient is not from -35 to 35 per mille (refusal 5)"),
         ] {
             let shown = line.escape_debug();
-            let said = format!("line 2: {shown}: bad line: {message}\njudged: 0, short: 0, bad lines: 1\n");
+            let said = format!("line 2: {shown}: bad line: {message}\nW judged: 0, short: 0, bad lines: 1\n");
             assert_eq!(compared(Curve::W, format!("\n{line}").as_bytes()), said);
         }
         for distance in ["1,5", "-1", "1.", ".5", "1.0000001", "1e3", "20000000000000000000", "18446744073709552"] {
@@ -265,8 +261,8 @@ mod tests {
     #[test]
     fn what_is_no_text() {
         let said = compared(Curve::Ebi, b"\xff\xfe\n# \xff\n\r\n   \npassenger ep 100 200 0 0 90 1000\r\n");
-        let bad = "line 1: \u{fffd}\u{fffd}: bad line: 1 fields where a line has 8\n";
-        assert_eq!(said, format!("{bad}judged: 1, short: 0, bad lines: 1\n"));
+        let bad = "line 1: \u{fffd}\u{fffd}: bad line: fields: 1, where a line has 8\n";
+        assert_eq!(said, format!("{bad}EBI judged: 1, short: 0, bad lines: 1\n"));
         let said = compared(Curve::Ebi, "\x1b[2J\x07 caff\u{e8}\npassenger\tep\r100\x0c200 0 0 90 1\n".as_bytes());
         assert!(said.starts_with("line 1: \\u{1b}[2J\\u{7} caff\u{e8}: bad line: "), "{said}");
         assert!(said.contains("line 2: passenger\\tep\\r100\\u{c}200 0 0 90 1: short by "), "{said}");
@@ -283,6 +279,8 @@ mod tests {
             assert!(first.ends_with("; fields are parted by spaces, decimals by a point"), "{said}");
         }
         assert!(!compared(Curve::Ebi, b"freight - 100 200 0 0 90 842:532").contains("parted by"));
+        let marked = "\u{feff}# EBI\n\u{feff}passenger ep 100 200 0 0 90 842.532\n";
+        assert_eq!(compared(Curve::Ebi, marked.as_bytes()), "EBI judged: 1, short: 0, bad lines: 0\n");
     }
 
     #[test]
@@ -290,7 +288,7 @@ mod tests {
         for table in ["", "\n \r\n", "# EBI distances of a maker\n"] {
             let said = compared(Curve::Ebi, table.as_bytes());
             let none = "no line to judge: the table is empty, or has comments only\n";
-            assert_eq!(said, format!("{none}judged: 0, short: 0, bad lines: 0\n"), "{table:?}");
+            assert_eq!(said, format!("{none}EBI judged: 0, short: 0, bad lines: 0\n"), "{table:?}");
         }
     }
 

@@ -1,6 +1,8 @@
 //! The distances of one train, the ceilings of the speeds it comes from, and how far it gets past a closed signal.
 use approach::{ceilings, ramp, step, Brake, Hundredth, Kmh, Metre, PerMille, Refusal, Times, Train};
+use std::env;
 use std::fmt::Display;
+use std::process::ExitCode;
 
 const TRAIN: Train = Train {
     brake: Brake::Passenger,
@@ -54,9 +56,16 @@ fn past_the_signal() -> Result<String, Refusal> {
     Ok(out)
 }
 
-fn main() -> Result<(), Refusal> {
+/// Nobody is to take the example's figures for those of a train that they named.
+fn main() -> Result<ExitCode, Refusal> {
+    if env::args_os().len() > 1 {
+        eprintln!(
+            "distances takes no arguments: it prints an example. For a train of your own see compare and curves."
+        );
+        return Ok(ExitCode::from(2));
+    }
     print!("{}{}{}", braked()?, refused(), past_the_signal()?);
-    Ok(())
+    Ok(ExitCode::SUCCESS)
 }
 
 #[cfg(test)]

@@ -93,7 +93,7 @@ impl Distances {
     }
 }
 
-/// The distances from a speed to a target, on a gradient.
+/// The distances from a speed, which may be above the top speed, to a target, on a gradient.
 pub fn step(train: Train, v: Kmh, target: Kmh, gradient: PerMille) -> Result<Distances, Refusal> {
     let raw::Distances { refusal, ebi, sbi, w, p } = raw::step(train.into(), v.0, target.0, gradient.0);
     let [ebi, sbi, w, p] = [ebi, sbi, w, p].map(Millimetre);

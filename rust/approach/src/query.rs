@@ -53,7 +53,8 @@ pub struct Approach {
     pub ceilings: Ceilings,
 }
 
-/// The approach of a train whose head stands at a place to the signal of a number, from 0.
+/// The approach of a train whose head stands at a place to the signal of a number, from 0. It brakes to the release speed on
+/// the least gradient from the head to the signal, and past the signal on the least along the overlap.
 pub fn query(train: Train, times: Times, sheet: &[u8], signal: u32, head: Metre) -> Result<Approach, Refusal> {
     let answer = raw::query(train.into(), times.dead.0, times.rise.0, sheet, signal, head.0);
     let raw::Answer { refusal, release, permitted, mark, w, sbi, ebi } = answer;

@@ -24,7 +24,9 @@ pub enum Refusal {
     Number = 8,
     /// A head beyond the signal.
     Head = 9,
-    /// A brake that on its gradient decelerates by less than 0.05 m/s², in a model consulted.
+    /// A brake that on its gradient decelerates by less than 0.05 m/s², in a model consulted. It counts least at the target
+    /// speed, and there a row and a query decide (a query's target is its release speed): a single distance from a higher
+    /// speed may be accepted.
     WeakBrake = 10,
     /// A list or buffer too short for the output.
     Room = 11,

@@ -24,19 +24,23 @@ fn stroke(curve: Curve) -> &'static str {
     }
 }
 
-/// Both ends, and between them multiples of 1, 2 or 5 by a power of 10, ten steps at the most. Those within a twelfth of the
-/// axis from an end are left out, lest their figures meet.
-fn ticks(from: u32, to: u32) -> Vec<u32> {
+/// Figures may stand 70 apart along the field, where the longest two, as 103530.268 and 100000, take 60; up it, 23.
+const ALONG: u32 = 12;
+const UP: u32 = 20;
+
+/// Both ends, and between them multiples of 1, 2 or 5 by a power of 10, ten steps at the most. Those nearer to an end than one
+/// part of so many of the axis are left out, lest their figures meet.
+fn ticks(from: u32, to: u32, parts: u32) -> Vec<u32> {
     let span = to - from;
     let mut steps = (0..).flat_map(|power| [1, 2, 5].map(|n| n * 10u32.pow(power)));
     let step = steps.find(|step| span.div_ceil(10) <= *step).expect("a step");
     let inner = (from.div_ceil(step)..=to / step).map(|n| n * step);
-    let inner = inner.filter(|at| (at - from).min(to - at) >= span.div_ceil(12));
+    let inner = inner.filter(|at| (at - from).min(to - at) >= span.div_ceil(parts));
     [from].into_iter().chain(inner).chain([to]).collect()
 }
 
 fn distance_axis(out: &mut String, picture: &Picture) {
-    for distance in ticks(0, picture.farthest.0).into_iter().map(Millimetre) {
+    for distance in ticks(0, picture.farthest.0, ALONG).into_iter().map(Millimetre) {
         let x = picture.x(distance);
         line(out, (x, TOP), (x, BOTTOM));
         text(out, (x, BOTTOM + 18.0), "middle", &metres(distance));
@@ -45,7 +49,7 @@ fn distance_axis(out: &mut String, picture: &Picture) {
 }
 
 fn speed_axis(out: &mut String, picture: &Picture) {
-    for v in ticks(picture.target.0, picture.top_speed.0).into_iter().map(Kmh) {
+    for v in ticks(picture.target.0, picture.top_speed.0, UP).into_iter().map(Kmh) {
         let y = picture.y(v);
         line(out, (LEFT, y), (RIGHT, y));
         text(out, (LEFT - 8.0, y + 4.0), "end", &v.0.to_string());
@@ -194,30 +198,33 @@ pub mod tests {
 
     #[test]
     fn words_on_the_axes() {
-        let words = |end| ticks(0, end).into_iter().map(|at| metres(Millimetre(at))).collect::<Vec<_>>().join(" ");
+        let words =
+            |end| ticks(0, end, ALONG).into_iter().map(|at| metres(Millimetre(at))).collect::<Vec<_>>().join(" ");
         assert_eq!(words(3_160_932), "0 500 1000 1500 2000 2500 3160.932");
         assert_eq!(words(834), "0 0.1 0.2 0.3 0.4 0.5 0.6 0.7 0.834");
         assert_eq!(words(1000), "0 0.1 0.2 0.3 0.4 0.5 0.6 0.7 0.8 0.9 1");
-        assert_eq!(ticks(0, 160), [0, 20, 40, 60, 80, 100, 120, 140, 160]);
-        assert_eq!(ticks(1, 165), [1, 20, 40, 60, 80, 100, 120, 140, 165]);
-        assert_eq!(ticks(89, 90), [89, 90]);
+        assert_eq!(ticks(0, 160, UP), [0, 20, 40, 60, 80, 100, 120, 140, 160]);
+        assert_eq!(ticks(1, 165, UP), [1, 20, 40, 60, 80, 100, 120, 140, 165]);
+        assert_eq!(ticks(30, 200, UP), [30, 40, 60, 80, 100, 120, 140, 160, 180, 200]);
+        assert_eq!(ticks(89, 90, UP), [89, 90]);
         for figure in [">30</text>", ">120</text>", ">0</text>", ">3647.389</text>"] {
             assert!(svg("freight - 90 500 120 -12 30").contains(figure), "{figure}");
         }
     }
 
-    /// The ends are always there, and no two figures nearer than a twelfth of the axis: 38 up the field, 70 along it, where
-    /// the longest two, as 103530.268 and 100000, take 60.
+    /// The ends are always there, and no two figures meet: a letter is 13 high.
     #[test]
     fn words_do_not_meet() {
-        let speeds = (1..=330).flat_map(|to| (0..to).map(move |from| (from, to)));
-        let distances = (0..27).flat_map(|n| [1, 3].map(|by| (0, by << n)));
-        for (from, to) in speeds.chain(distances) {
-            let ticks = ticks(from, to);
+        let speeds = (1..=330).flat_map(|to| (0..to).map(move |from| (from, to, UP)));
+        let distances = (0..27).flat_map(|n| [1, 3].map(|by| (0, by << n, ALONG)));
+        for (from, to, parts) in speeds.chain(distances) {
+            let ticks = ticks(from, to, parts);
             assert_eq!((ticks[0], ticks[ticks.len() - 1]), (from, to));
-            assert!(ticks.windows(2).all(|two| 12 * (u64::from(two[1]) - u64::from(two[0])) >= u64::from(to - from)));
-            assert!(ticks.len() <= 11, "{ticks:?}");
+            let gap = |two: &[u32]| u64::from(parts) * u64::from(two[1] - two[0]);
+            assert!(ticks.windows(2).all(|two| gap(two) >= u64::from(to - from)), "{ticks:?}");
+            assert!(ticks.len() <= 12, "{ticks:?}");
         }
+        assert!((BOTTOM - TOP) / f64::from(UP) > 13.0 && (RIGHT - LEFT) / f64::from(ALONG) > 60.0);
     }
 
     /// Its box is below every curve, and within the drawing.

@@ -56,7 +56,7 @@ fn downhill(picture: &Picture) -> Vec<String> {
     let target = picture.target;
     let back = picture.rows.iter().map(|row| steps(row).into_iter().take_while(|&step| step < 0).count()).max();
     let back = Kmh(target.0 + back.expect("four curves") as u32);
-    let why = "there the model counts on less of the brake, and this downhill leaves little of it";
+    let why = "there the model counts on less of the brake (K0), and this downhill leaves little of it";
     let turn = format!("Up to {back} a distance shrinks as the speed grows, for the same reason.");
     let turn = (back > target).then_some(turn);
     [format!("Bend near {target}: {why}.")].into_iter().chain(turn).collect()
@@ -126,7 +126,7 @@ pub mod tests {
     #[test]
     fn bends_on_a_downhill() {
         let bend =
-            "Bend near 1 km/h: there the model counts on less of the brake, and this downhill leaves little of it.";
+            "Bend near 1 km/h: there the model counts on less of the brake (K0), and this downhill leaves little of it.";
         let turn = "Up to 2 km/h a distance shrinks as the speed grows, for the same reason.";
         assert_eq!(bent("freight - 100 1000 100 -34 1"), [bend, turn]);
         assert_eq!(bent("freight - 100 1000 2 -34 1"), [bend, turn]);
