@@ -1,8 +1,9 @@
 #!/usr/bin/env python3
 """tools/dev.py CRATE [--allow-holes]: `rt dev CRATE` in few lines, at the repository's root.
 
-Prints errors, functions that are not proved, and the verdict. Writes each proof file that the check prints and that is not
-there yet. target/last.txt has the whole output. W=NUMBER in the environment says where a line is cut, at 700 if not."""
+Prints errors, functions that are not proved, and the verdict; ends with rt's status. Writes each proof file that the check
+prints and that is not there yet. target/last.txt has the whole output. W=NUMBER in the environment says where a line is
+cut, at 700 if not."""
 import os
 import re
 import subprocess
@@ -11,7 +12,7 @@ import time
 
 BEGINNINGS = ('fn ', 'logic=', 'rt:')
 PRINTED = re.compile(r'help: write (\S+) with these lines')
-PROVED = re.compile(r'(fn|struct|enum) .*: proved')
+PROVED = re.compile(r'(fn|struct|enum) .*: proved|rt: .*\(unchanged since it was last proved\)')
 
 
 def checked(crate, words):
@@ -19,7 +20,7 @@ def checked(crate, words):
     os.makedirs('target', exist_ok=True)
     with open('target/last.txt', 'w') as last:
         last.write(run.stdout + run.stderr)
-    return (run.stdout + run.stderr).split('\n')
+    return run.returncode, (run.stdout + run.stderr).split('\n')
 
 
 def parted(lines):
@@ -47,17 +48,20 @@ def write(path, lines):
 
 def main(crate, *words):
     begun = time.time()
-    files, lines = parted(checked(crate, words))
-    proved = [line for line in lines if PROVED.match(line)]
+    status, lines = checked(crate, words)
+    files, lines = parted(lines)
     width = int(os.environ.get('W', '700'))
     for line in lines:
-        if line not in proved and ('error' in line or line.startswith(BEGINNINGS) or '--allow-holes' in words):
+        told = 'error' in line or line.startswith(BEGINNINGS) or '--allow-holes' in words
+        if told and not PROVED.match(line):
             print(line[:width])
-    functions = sum(line.startswith('fn ') for line in proved)
-    print(f'proved functions: {functions}, {time.time() - begun:.1f} s')
+    print(f'{time.time() - begun:.1f} s')
     for path, skeleton in files.items():
         if not os.path.exists(path):
             write(path, skeleton)
+    return status
 
 
-main(*sys.argv[1:])
+if len(sys.argv) < 2 or '--help' in sys.argv:
+    sys.exit(__doc__)
+sys.exit(main(*sys.argv[1:]))

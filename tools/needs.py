@@ -1,7 +1,8 @@
 #!/usr/bin/env python3
 """tools/needs.py CRATE FUNCTION: each need of a function, with the paths into its `c`, the nearest place first.
 
-First `rt dev CRATE --generated target/gen`. FUNCTION is its folder below proofs/, as `row` or `Mark/step`."""
+First `rt dev CRATE --generated target/gen`. FUNCTION is its folder below proofs/, as `row` or `Mark/step`; a function that is
+proved by a walk of its own has no needs."""
 import re
 import sys
 
@@ -11,8 +12,11 @@ NEED = re.compile(r'(Need-[^\s]+) =\s+\(c : ([^\s)]+)\)')
 
 
 def main(crate, function):
-    with open(f'target/gen/Rattle.{crate}.proofs/proofs/{function}/Lts.antt') as file:
-        text = file.read()
+    try:
+        with open(f'target/gen/Rattle.{crate}.proofs/proofs/{function}/Lts.antt') as file:
+            text = file.read()
+    except FileNotFoundError as missing:
+        sys.exit(f'{missing.filename} is not there\n\n{__doc__}')
     records = {name: dict(FIELD.findall(fields)) for name, fields in RECORD.findall(text)}
     for need, place in NEED.findall(text):
         print(need)
@@ -24,4 +28,6 @@ def main(crate, function):
             path += ' .before'
 
 
+if len(sys.argv) != 3:
+    sys.exit(__doc__)
 main(*sys.argv[1:])

@@ -1,2 +1,2 @@
 // Document 01, "Figures to hold": the starred rows, proved of the definitions in proofs/Starred.antt.
-// Takes: `step`, `ceilings`. Gives: nothing to a crate above.
+// Takes: the definitions of `step`, `ceilings` and those below. Gives: nothing to a crate above.

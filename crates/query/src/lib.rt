@@ -1,5 +1,6 @@
 // The approach query: how fast a train may come up to a closed signal, and how fast it may creep past. Document 01, "Approach".
-// Takes: `query_way`, `query_release`, `query_permitted`, `ceilings`. Gives: the operation `query`, and the third demand.
+// Takes: `query_way`, `query_release`, `query_permitted`, `ramp` for refusal 6, `ceilings`. Gives: the operation `query`, and the
+// third demand.
 ghost use mathlib.Core.Path.{_≡_};
 ghost use Rattle.train.specs.Coefficients.{first, Within};
 ghost use Rattle.query_permitted.specs.Find.{Steady};

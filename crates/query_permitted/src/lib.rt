@@ -1,7 +1,7 @@
 // The permitted speed: the highest up to which each speed can still be braked to the release speed before the signal.
 // Document 01, "Approach".
-// Takes: `step_course`, `step_curve`, `step_quick`, `query_climb`. Gives: `speed`, refusal 10 of the step model among its
-// answers, to `query`.
+// Takes: `step_course`, `step_braking`, `step_curve`, `step_quick`, `query_climb`. Gives: `speed`, refusal 10 of the step model
+// among its answers, to `query`.
 ghost use mathlib.Core.Path.{_≡_};
 ghost use mathlib.Core.Bool.{true};
 ghost use Prim.Native.Nat.{_+_, _-_, _≤_, _<_};

@@ -1,6 +1,6 @@
 // The release speed: the last before the first at which the train, braked at the closed signal, gets beyond the overlap.
 // Document 01, "Approach".
-// Takes: `ramp`, `query_climb`. Gives: `speed`, refusal 10 of the ramp among its answers, to `query`.
+// Takes: `ramp`, `ramp_motion`, `query_climb`. Gives: `speed`, refusal 10 of the ramp among its answers, to `query`.
 ghost use mathlib.Core.Path.{_≡_};
 ghost use Prim.Native.Nat.{min, _≤_};
 ghost use Rattle.train.specs.Coefficients.{Within};

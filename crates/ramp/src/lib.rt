@@ -1,5 +1,6 @@
 // The ramp: how far past a closed signal a train gets that is braked there, and when. Document 01, "Ramp".
-// Takes: `ramp_plan`, `ramp_stop`. Gives: the operation `ramp`; to `query_release` the motion by itself (`start`, `stop_from`).
+// Takes: `train_slope`, `ramp_plan`, `ramp_stop`. Gives: the operation `ramp`; to `query_release` the motion by itself (`start`,
+// `stop_from`), to `query` refusal 6 (`of_times`).
 ghost use mathlib.Core.Path.{_≡_};
 ghost use Prim.Native.Nat.{_≤_};
 ghost use Rattle.train.specs.Coefficients.{first, Within};

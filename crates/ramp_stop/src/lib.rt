@@ -1,4 +1,4 @@
 // Where and when the train of a plan stops, in whole numbers: the moment, the place.
-// Takes: a plan (`ramp_motion`), `wide`. Gives: the last millisecond forward and the place then, to `ramp`.
+// Takes: a plan (`ramp_motion`), `wide`, `wide_quotient`. Gives: the last millisecond forward and the place then, to `ramp`.
 pub mod place;
 pub mod search;

@@ -1,5 +1,5 @@
 // A sheet's numbers, records and header, laid into a lent buffer; what lies before and behind stays. Document 01, "Line sheet".
-// Takes: lists that keep the rules (`sheet_lists`). Gives: `whole`, the bytes of a sheet, to `sheet_writer`.
+// Takes: `sheet_line`, and lists that keep its rules (`sheet_lists`). Gives: `whole`, the bytes of a sheet, to `sheet_writer`.
 ghost use mathlib.Core.Path.{_≡_};
 ghost use mathlib.Core.Bool.{true};
 ghost use mathlib.Core.List.{_++_};

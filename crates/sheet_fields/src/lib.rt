@@ -1,5 +1,5 @@
 // The fields of an accepted sheet, where they stand in the caller's bytes. Document 01, "Line sheet".
-// Takes: an accepted sheet (`sheet`). Gives: each field, to `sheet_mark` and `sheet_lookup`.
+// Takes: an accepted sheet (`sheet`), `sheet_line`. Gives: each field, to `sheet_mark`, `sheet_lookup` and `approach_sheet`.
 ghost use mathlib.Core.Path.{_≡_};
 ghost use mathlib.Core.Bool.{true};
 ghost use Prim.Native.Nat.{_+_, _*_, _≤_, _<_};

@@ -1,5 +1,6 @@
 // A line's numbers: how they stand in bytes, and their rules, wherever they are kept. Document 01, "Line sheet".
-// Takes: `lists`. Gives: numbers read from bytes, and the rules of one record, to `sheet`, in bytes, and to `sheet_lists`.
+// Takes: `train`, `lists`. Gives: numbers read from bytes, and the rules of one record, to `sheet`, `sheet_fields`, `sheet_lists`
+// and `sheet_bytes`.
 pub mod bytes;
 pub mod rules;
 

@@ -1,5 +1,6 @@
 // A line's fields as the caller's lists, and whether they keep the sheet's rules. Document 01, "Line sheet".
-// Takes: the rules of `sheet_line`. Gives: `keep`, to `sheet_writer`; the last two bytes of a record, to `sheet_bytes`.
+// Takes: the rules of `sheet_line`, `train_slope`. Gives: `keep`, to `sheet_writer`; the last two bytes of a record, to
+// `sheet_bytes`.
 ghost use mathlib.Core.Path.{_≡_};
 ghost use Prim.Native.Nat.{_≤_, _<_};
 ghost use lib.ListN.{length, getD};

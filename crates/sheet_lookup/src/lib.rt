@@ -1,5 +1,6 @@
 // A stretch or a signal of a line sheet, by its number. Document 01, "Line sheet".
-// Takes: `sheet`, `sheet_fields`. Gives: the operations `read_stretch`, `read_signal`, also to `query_way`.
+// Takes: `sheet`, `sheet_fields`, and for its contract `sheet_mark`. Gives: the operations `read_stretch`, `read_signal`, also to
+// `query_way`.
 ghost use mathlib.Core.Path.{_≡_};
 ghost use Rattle.sheet_mark.specs.Answer.{Again};
 ghost use Rattle.sheet_lookup.specs.Answer.{stretchOf, signalOf};

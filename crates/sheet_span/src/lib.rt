@@ -1,5 +1,5 @@
 // The least gradient over a span of a line. Document 01, "Approach".
-// Takes: the mark of `sheet_mark`. Gives: `least`, to `query_way`.
+// Takes: the mark of `sheet_mark`, `train_slope`. Gives: `least`, to `query_way`.
 ghost use mathlib.Core.Path.{_≡_};
 ghost use mathlib.Core.Bool.{true};
 ghost use Prim.Native.Nat.{_≤_, _<_};

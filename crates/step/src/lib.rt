@@ -1,5 +1,6 @@
 // The step model: single distances, with document 002's first values. Document 01, "Step distances".
-// Takes: `step_course`, `step_quick`. Gives: the operation `step`; to `step_row` a refusal or a course (`start`).
+// Takes: `train_slope`, `step_course`, `step_braking`, `step_quick`. Gives: the operation `step`; to `step_row` a refusal or a
+// course (`start`).
 ghost use mathlib.Core.Path.{_≡_};
 ghost use Prim.Native.Nat.{_≤_};
 ghost use Rattle.train.specs.Coefficients.{first};

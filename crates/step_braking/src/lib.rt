@@ -1,6 +1,6 @@
 // How a train brakes on a gradient: what the speeds do not change of it, in whole numbers. Document 002, sections 7 to 7.4.
 // Takes: what delay and slope are (`train_delay`, `train_slope`). Gives: `Course`, and the strength of its braking at a speed, to
-// `step_course`, `step_curve` and `step_quick`.
+// the step crates above and to `query_permitted`.
 use train::Kmh;
 
 pub mod strength;

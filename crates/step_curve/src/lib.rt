@@ -1,6 +1,6 @@
 // One curve's distance at one pair of speeds, in whole numbers. Document 002, sections 7 and 8.
-// Takes: a course (`step_braking`), `wide`. Gives: a distance, and whether it fits into so many metres, to `step_quick` and
-// `query_permitted`.
+// Takes: a course and its strength (`step_braking`), `wide`, `wide_quotient`. Gives: a distance, and whether it fits into so many
+// metres, to `step_quick` and `query_permitted`; `Curve`, to all that name one.
 ghost use mathlib.Core.Path.{_≡_};
 ghost use Prim.Native.Nat.{_*_};
 ghost use lib.Dec.{leb};

@@ -1,7 +1,7 @@
 // Distances from bounds of one word each. They nearly always leave one number of millimetres, or show that a distance is at most
 // so many metres; where they do not, the wide numbers of `step_curve` are asked.
-// Takes: a course, and `step_curve` where bounds do not decide. Gives: the same distance, and speeds that surely fit, to `step`,
-// `step_row` and `query_permitted`.
+// Takes: a course (`step_braking`), and `step_curve` where bounds do not decide. Gives: the same distance, and speeds that surely
+// fit, to `step`, `step_row` and `query_permitted`.
 ghost use mathlib.Core.Path.{_≡_};
 ghost use mathlib.Core.Bool.{true};
 ghost use Prim.Native.Nat.{ℕ, _+_, _*_, _^_, _≤_};

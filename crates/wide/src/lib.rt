@@ -1,6 +1,6 @@
 // Natural numbers below 2^192 by value, each contract in plain numbers.
-// Takes: `exact`, for its proofs. Gives: products, sums and orders, to `wide_quotient` and to the two models, `step_curve` and
-// `ramp_stop`.
+// Takes: `exact`, for its proofs. Gives: products, sums and orders, to `wide_quotient`, `step_curve` and `ramp_stop`, and to
+// tests by `wide_calls`.
 ghost use mathlib.Core.Path.{_≡_};
 ghost use Prim.Native.Nat.{_+_, _*_, _<_, _≤_};
 ghost use lib.Dec.{leb};

@@ -1,5 +1,6 @@
 //! What `include/approach.h` names for C, the wrapper names alike: nothing comes to one and is forgotten in the other.
 use approach::{sheet, Mark, Refusal, LONGEST_ROW};
+use std::collections::BTreeSet;
 
 const HEADER: &str = include_str!("../../../include/approach.h");
 
@@ -33,6 +34,30 @@ fn name(refusal: Refusal) -> &'static str {
         Refusal::Head => "HEAD",
         Refusal::WeakBrake => "WEAK_BRAKE",
         Refusal::Room => "ROOM",
+    }
+}
+
+/// The calls that a text declares or makes: names before a bracket.
+fn calls(text: &str) -> BTreeSet<&str> {
+    let names = text.split(|letter: char| !(letter.is_ascii_alphanumeric() || letter == '_' || letter == '('));
+    names
+        .filter_map(|name| name.split_once('('))
+        .map(|(name, _)| name)
+        .filter(|name| name.starts_with("approach_"))
+        .collect()
+}
+
+/// What is proved is declared to C and to Rust, called from C, and named among the promises.
+#[test]
+fn calls_declared() {
+    let proved = calls(include_str!("../../../crates/approach/src/lib.rt"));
+    assert!(proved.len() >= 12, "{proved:?}");
+    assert_eq!(calls(HEADER), proved);
+    assert_eq!(calls(include_str!("../src/raw.rs")), proved);
+    for call in proved {
+        assert!(include_str!("../../../c/calls.c").contains(call), "c/calls.c does not make {call}");
+        let promised = include_str!("../../../docs/PROMISES.md").contains(&format!("`{call}`"));
+        assert!(promised, "docs/PROMISES.md does not name {call}");
     }
 }
 
