@@ -25,6 +25,11 @@ bench: archives ## times the calls beside two peers in Rust
 
 archives: $(designers) $(tests) ## proves what has changed and gives target/staticlib/libapproach.a
 
+test: archives ## the calls from C and the Rust tests, over what is proved
+	rt check
+	cc -std=c11 -Wall -Wextra -Werror -Iinclude c/calls.c $(designers) -o target/calls && target/calls
+	$(cargo) test --release --offline --manifest-path rust/Cargo.toml
+
 gate: ## everything from nothing, as CI does: proofs, wrong programs, programs, calls from C, Rust tests
 	bash .ci/run
 
@@ -41,4 +46,4 @@ $(tests): $(call sources,wide_calls)
 	rt staticlib wide_calls
 
 .NOTPARALLEL:
-.PHONY: help example distances curves bench archives gate tables clean
+.PHONY: help example distances curves bench archives test gate tables clean

@@ -14,7 +14,7 @@ narrow b h i j k = record { least = leb→le _ _ h; growth = leb→le _ _ i; end
 
 returns : tie.Need-returns
 unfolding limitsOf
-returns c = (simp (lt-ltb _ _ (c .if1 .taken)), λ z. absurd (omega arith))
+returns c = (simp (lt-ltb 330 (c .before .before .args .permitted .0) (omega (arith, c .if1 .taken))), λ z. absurd (omega arith))
 
 ceiling-of-requires : tie.Need-ceiling-of-requires
 ceiling-of-requires c κs = (omega (arith, c .if1 .left), narrow _ tt tt tt tt)
