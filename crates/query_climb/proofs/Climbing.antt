@@ -1,6 +1,6 @@
 -- A climb, step by step as the loops take it; and that it is the highest speed up to which each fits.
 use mathlib.Core.Path.{_≡_, refl, sym, ap, _∙_}
-use mathlib.Core.Bool.{Bool, true, false}
+use mathlib.Core.Bool.{Bool, true, false, cond}
 use mathlib.Core.Logic.{⊎-elim}
 use Prim.Native.Nat.{ℕ, zero, suc, _+_, _-_, _≤_, _<_}
 use native.Mathlib.Omega.{arith}
@@ -12,11 +12,11 @@ module _ (fits : ℕ → Bool) where
   -- with so many speeds left
   goes : (v n : ℕ) → fits (suc v) ≡ true → climb fits v (suc n) ≡ climb fits (suc v) n
   unfolding climb
-  goes v n e = rw e refl
+  goes v n e = ap (λ b. cond b (climb fits (suc v) n) v) e
 
   stops : (v n : ℕ) → fits (suc v) ≡ false → climb fits v (suc n) ≡ v
   unfolding climb
-  stops v n e = rw e refl
+  stops v n e = ap (λ b. cond b (climb fits (suc v) n) v) e
 
   ends : (v : ℕ) → climb fits v 0 ≡ v
   unfolding climb

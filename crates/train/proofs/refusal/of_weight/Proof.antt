@@ -1,10 +1,11 @@
 -- `of_weight`: each test is one entry of the list.
 use borrow.Author.Tests.{lt-ltb, le-ltb}
+use native.Mathlib.Omega.{arith}
 use Rattle.train.proofs.refusal.of_weight.Statement.{statement}
 use Rattle.train.proofs.refusal.of_weight.Tie as tie
 
 returns : tie.Need-returns
-returns c = simp (lt-ltb _ _ (c .if1 .taken))
+returns c = simp (lt-ltb (c .before .args .weight) 45 (omega (arith, c .if1 .taken)))
 
 returns-2 : tie.Need-returns-2
 returns-2 c = simp (le-ltb _ _ (c .before .if1 .left), lt-ltb _ _ (c .if2 .taken))
