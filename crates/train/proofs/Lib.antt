@@ -1,2 +1,4 @@
 pub mod Refusals
 pub mod Spans
+pub mod Judging
+pub mod Lending

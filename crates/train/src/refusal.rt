@@ -1,12 +1,14 @@
 // What is turned away of a train and of a gradient: the number of document 01's table, or 0.
 ghost use mathlib.Core.Path.{_≡_};
+ghost use mathlib.Core.List.{[], _∷_};
 ghost use Rattle.train.specs.Refusal.{firstOf, weightRefusals, trainRefusals, gradientRefusals};
+ghost use Rattle.train.specs.Judged.{Judged, weightRule, trainRules, gradientRule};
 use super::Gradient;
 use super::Train;
 
 // Of a braked weight percentage: 1.
 pub fn of_weight(weight: u32) -> u32
-    ensures { λ r. ⌜ r ≡ firstOf (weightRefusals weight) ⌝ }
+    ensures { λ r. ⌜ (r ≡ firstOf (weightRefusals weight)) × Judged (weightRule weight ∷ []) r ⌝ }
 {
     if weight < 45 {
         return 1;
@@ -22,7 +24,7 @@ pub fn of_weight(weight: u32) -> u32
 
 // Of a train: 1, 2 or 3.
 pub fn of_train(train: Train) -> u32
-    ensures { λ r. ⌜ r ≡ firstOf (trainRefusals train) ⌝ }
+    ensures { λ r. ⌜ (r ≡ firstOf (trainRefusals train)) × Judged (trainRules train) r ⌝ }
 {
     let length = train.length;
     let top = train.top;
@@ -44,7 +46,7 @@ pub fn of_train(train: Train) -> u32
 
 // Of a gradient: 5.
 pub fn of_gradient(g: Gradient) -> u32
-    ensures { λ r. ⌜ r ≡ firstOf (gradientRefusals g) ⌝ }
+    ensures { λ r. ⌜ (r ≡ firstOf (gradientRefusals g)) × Judged (gradientRule g ∷ []) r ⌝ }
 {
     if g.rise > 35 {
         return 5;

@@ -9,7 +9,7 @@ use Rattle.query.proofs.start.Statement.{statement}
 use Rattle.query.proofs.start.Tie as tie
 
 good : (c : tie.Else1) → firstOf (trainRefusals (c .before .before .before .args .train)) ≡ 0
-good c = omega (arith, c .if1 .left, c .before .of-train .ensures)
+good c = omega (arith, c .if1 .left, c .before .of-train .ensures .0)
 
 of-train-requires : tie.Need-of-train-requires
 of-train-requires c κs = search needs
@@ -17,7 +17,7 @@ of-train-requires c κs = search needs
 returns : tie.Need-returns
 returns c =
     let a = c .before .before .before .args in
-    (c .if1 .taken, by-train (a .train) (a .tm) (a .tr) (now (a .s)) (a .signal) (a .head .0) _ (c .if1 .taken) (c .before .of-train .ensures))
+    (c .if1 .taken, by-train (a .train) (a .tm) (a .tr) (now (a .s)) (a .signal) (a .head .0) _ (c .if1 .taken) (c .before .of-train .ensures .0))
 
 of-times-requires : tie.Need-of-times-requires
 of-times-requires c κs = search needs

@@ -16,7 +16,7 @@ after : (c : tie.Else1) (n : ℕ) → let o = c .before .before .before .args .o
     firstOf (speedRefusals (o .v) ++ (gradientRefusals (o .gradient) ++ timeRefusals (o .tm) (o .tr))) ≡ n → n ≡ firstOf (inputs o)
 after c n e =
     let o = c .before .before .before .args .o in
-    sym (first-after 0 (weightRefusals (o .weight)) (speedRefusals (o .v) ++ (gradientRefusals (o .gradient) ++ timeRefusals (o .tm) (o .tr))) (weight-rising (o .weight)) (omega (arith, c .if1 .left, c .before .of-weight .ensures)) ∙ e)
+    sym (first-after 0 (weightRefusals (o .weight)) (speedRefusals (o .v) ++ (gradientRefusals (o .gradient) ++ timeRefusals (o .tm) (o .tr))) (weight-rising (o .weight)) (omega (arith, c .if1 .left, c .before .of-weight .ensures .0)) ∙ e)
 
 -- nor the speed
 on : (c : tie.Else3) (n : ℕ) → let o = c .before .before .before .before .before .args .o in
@@ -29,8 +29,8 @@ of-weight-requires c κs = search needs
 returns : tie.Need-returns
 returns c =
     let o = c .before .before .before .args .o in
-    c .before .of-weight .ensures
-    ∙ sym (first-before (weightRefusals (o .weight)) (speedRefusals (o .v) ++ (gradientRefusals (o .gradient) ++ timeRefusals (o .tm) (o .tr))) (λ z. omega (arith, c .if1 .taken, c .before .of-weight .ensures)))
+    c .before .of-weight .ensures .0
+    ∙ sym (first-before (weightRefusals (o .weight)) (speedRefusals (o .v) ++ (gradientRefusals (o .gradient) ++ timeRefusals (o .tm) (o .tr))) (λ z. omega (arith, c .if1 .taken, c .before .of-weight .ensures .0)))
 
 returns-2 : tie.Need-returns-2
 returns-2 c = after (c .before) 3 (simp (lt-ltb _ _ (c .if2 .taken)))
@@ -45,7 +45,7 @@ returns-4 : tie.Need-returns-4
 returns-4 c =
     let g = c .before in
     let o = g .before .before .before .before .before .before .args .o in
-    on (g .before) _ (first-before (gradientRefusals (o .gradient)) (timeRefusals (o .tm) (o .tr)) (λ z. omega (arith, c .if4 .taken, g .of-gradient .ensures)) ∙ sym (g .of-gradient .ensures))
+    on (g .before) _ (first-before (gradientRefusals (o .gradient)) (timeRefusals (o .tm) (o .tr)) (λ z. omega (arith, c .if4 .taken, g .of-gradient .ensures .0)) ∙ sym (g .of-gradient .ensures .0))
 
 of-times-requires : tie.Need-of-times-requires
 of-times-requires c κs = search needs
@@ -54,7 +54,7 @@ returns-5 : tie.Need-returns-5
 returns-5 c =
     let g = c .before .before in
     let o = g .before .before .before .before .before .before .args .o in
-    on (g .before) _ (first-after 0 (gradientRefusals (o .gradient)) (timeRefusals (o .tm) (o .tr)) (gradient-rising (o .gradient)) (omega (arith, c .before .if4 .left, g .of-gradient .ensures)) ∙ sym (c .of-times .ensures))
+    on (g .before) _ (first-after 0 (gradientRefusals (o .gradient)) (timeRefusals (o .tm) (o .tr)) (gradient-rising (o .gradient)) (omega (arith, c .before .if4 .left, g .of-gradient .ensures .0)) ∙ sym (c .of-times .ensures))
 
 pub turned-away-spec : {M : Type 1} → statement M
 turned-away-spec =

@@ -16,7 +16,7 @@ after : (c : tie.Else1) (n : ℕ) → let a = c .before .before .args in
     firstOf (speedRefusals (a .v) (a .v0) ++ gradientRefusals (a .g)) ≡ n → n ≡ firstOf (inputs (a .train) (a .g) (a .v) (a .v0))
 after c n e =
     let a = c .before .before .args in
-    sym (first-after 0 (trainRefusals (a .train)) (speedRefusals (a .v) (a .v0) ++ gradientRefusals (a .g)) (train-rising (a .train)) (omega (arith, c .if1 .left, c .before .of-train .ensures)) ∙ e)
+    sym (first-after 0 (trainRefusals (a .train)) (speedRefusals (a .v) (a .v0) ++ gradientRefusals (a .g)) (train-rising (a .train)) (omega (arith, c .if1 .left, c .before .of-train .ensures .0)) ∙ e)
 
 of-train-requires : tie.Need-of-train-requires
 of-train-requires c κs = search needs
@@ -24,8 +24,8 @@ of-train-requires c κs = search needs
 returns : tie.Need-returns
 returns c =
     let a = c .before .before .args in
-    c .before .of-train .ensures
-    ∙ sym (first-before (trainRefusals (a .train)) (speedRefusals (a .v) (a .v0) ++ gradientRefusals (a .g)) (λ z. omega (arith, c .if1 .taken, c .before .of-train .ensures)))
+    c .before .of-train .ensures .0
+    ∙ sym (first-before (trainRefusals (a .train)) (speedRefusals (a .v) (a .v0) ++ gradientRefusals (a .g)) (λ z. omega (arith, c .if1 .taken, c .before .of-train .ensures .0)))
 
 returns-2 : tie.Need-returns-2
 returns-2 c = after (c .before) 3 (simp (lt-ltb _ _ (c .if2 .taken)))
@@ -47,7 +47,7 @@ returns-5 c =
     let f = c .before in
     let e = f .before in
     let d = e .before in
-    after (d .before) _ (simp (le-ltb _ _ (d .if2 .left), le-ltb _ _ (e .if3 .left), le-ltb _ _ (f .if4 .left)) (sym (c .of-gradient .ensures)))
+    after (d .before) _ (simp (le-ltb _ _ (d .if2 .left), le-ltb _ _ (e .if3 .left), le-ltb _ _ (f .if4 .left)) (sym (c .of-gradient .ensures .0)))
 
 pub turned-away-spec : {M : Type 1} → statement M
 turned-away-spec =
