@@ -15,7 +15,8 @@ use Rattle.train.specs.Units.{metres}
 use Rattle.train.proofs.Refusals.{first-before}
 use Rattle.sheet_line.specs.Line.{Line}
 use Rattle.sheet.specs.Sheet.{lineOf, accepted}
-use Rattle.sheet.proofs.Kept.{Kept, headed-of}
+use Rattle.sheet.proofs.Kept.{headed-of}
+use Rattle.sheet.specs.Kept.{Kept}
 use Rattle.sheet_lookup.specs.Answer.{readRefusals, signalOf}
 use Rattle.sheet_lookup.proofs.Read.{read-refusal}
 use Rattle.sheet_span.specs.Least.{leastOver, LeastOver}

@@ -1,25 +1,21 @@
 -- A line keeps the paper's rules just where its counts, its first start and the records of both tables keep theirs.
-use mathlib.Core.Path.{_≡_}
-use mathlib.Core.Bool.{true, and-true}
+use mathlib.Core.Path.{_≡_, sym, _∙_}
+use mathlib.Core.Bool.{true, not, and-true, false≢true}
 use mathlib.Core.List.{List, [], _∷_, _++_}
 use Prim.Native.Nat.{ℕ, suc, _+_, _-_, _≤_, _<_}
 use native.Mathlib.Omega.{arith}
-use borrow.Author.Tests.{lt-ltb, ltb-true, le-leb, leb-true, eq-eqb, eqb-true}
+use borrow.Author.Tests.{lt-ltb, ltb-true, le-leb, leb-true, eq-eqb, eqb-true, not-true, not-false}
 use lib.Dec.{leb}
 use lib.IntN.{ℤ}
 use Rattle.lists.specs.Counted.{allHold}
 use Rattle.lists.proofs.Holding.{and-left, and-right, every-at, every-of, each-of, all-of}
 use Rattle.train.specs.Gradient.{gradientOf, Moderate}
+use Rattle.train.specs.Refusal.{_gives_}
+use Rattle.train.proofs.Judging.{Settles, settled}
 use Rattle.sheet_line.specs.Line.{Line, rises, moderate, countRules, stretchRules, signalRules}
 use Rattle.sheet.specs.Sheet.{lineOf, headerRules, keeps, accepted}
-use Rattle.sheet_line.specs.Records.{Counts, Along}
 use Rattle.sheet.specs.Headed.{Headed}
-
-pub record Kept (l : Line) : Type 0 where
-  pub counts : Counts (l .stretches) (l .signals) (l .end)
-  pub origin : l .start 0 ≡ 0
-  pub stretches : Along (l .start) (λ k. (l .start k < l .end) × Moderate (gradientOf (l .gradient k))) (l .stretches)
-  pub signals : Along (l .place) (λ k. (l .place k < l .end) × (l .place k + l .overlap k ≤ l .end)) (l .signals)
+use Rattle.sheet.specs.Kept.{Kept, IsSheet, sheetRule}
 
 moderate-at : (z : ℤ) → moderate z ≡ true → Moderate (gradientOf z)
 moderate-at z h =
@@ -97,3 +93,13 @@ pub accepted-is : (s : List ℕ) → Headed s → accepted s ≡ keeps (lineOf s
 unfolding accepted allHold
 accepted-is s h =
     rw (le-leb _ _ (h .room), eq-eqb _ _ (h .stretches), eq-eqb _ _ (h .signals), eq-eqb _ _ (h .whole), eq-eqb _ _ (h .lent)) (and-true (keeps (lineOf s)))
+
+-- so the bytes that are accepted are the sheets
+pub sheet-of : (s : List ℕ) → accepted s ≡ true → IsSheet s
+sheet-of s h = let (a, b) = headed-of s h in record { header = a; line = b }
+
+pub sheet-is : (s : List ℕ) → IsSheet s → accepted s ≡ true
+sheet-is s h = accepted-is s (h .header) ∙ keeps-of (lineOf s) (h .line)
+
+pub sheet-settles : (s : List ℕ) → Settles (sheetRule s) (not (accepted s) gives 7 ∷ [])
+sheet-settles s = settled (sheetRule s) tt (not (accepted s)) (λ e. sheet-of s (not-false _ e)) (λ e h. false≢true (sym (not-true _ e) ∙ sheet-is s h))

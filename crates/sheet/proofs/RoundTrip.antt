@@ -17,7 +17,8 @@ use Rattle.sheet.specs.Fields.{Fields, listed, sheetOf, fieldsOf}
 use Rattle.sheet_line.specs.Records.{Along}
 use Rattle.sheet.specs.Headed.{Headed}
 use Rattle.sheet_line.proofs.Complement.{complement-signed, signed-complement, moderate-fits}
-use Rattle.sheet.proofs.Kept.{Kept, keeps-of, headed-of, accepted-is}
+use Rattle.sheet.specs.Kept.{Kept}
+use Rattle.sheet.proofs.Kept.{keeps-of, headed-of, accepted-is}
 use Rattle.sheet.proofs.Parts.{part, part-join, half, two-bytes, four-bytes, table-bytes, two, four, u16-behind, u32-behind, u16-before, u32-before, records-length, first-back, second-back}
 
 -- two lines with the same fields

@@ -7,7 +7,8 @@ use lib.ListN.{length}
 use Rattle.lists.proofs.Holding.{and-left, and-right}
 use Rattle.sheet.specs.Sheet.{accepted}
 use Rattle.sheet.specs.Fields.{Fields, listed, writable, sheetOf, fieldsOf}
-use Rattle.sheet.proofs.Kept.{Kept, kept-of, keeps-of}
+use Rattle.sheet.specs.Kept.{Kept}
+use Rattle.sheet.proofs.Kept.{kept-of, keeps-of}
 use Rattle.sheet.proofs.RoundTrip.{accepted-again, write-read}
 
 pub record Writable (f : Fields) : Type 0 where

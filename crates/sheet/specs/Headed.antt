@@ -1,5 +1,4 @@
--- A header that is right, number by number.
--- Nobody has to believe this: `headed-of` and `accepted-is` (proofs/Kept.antt) tie it to the paper's rules.
+-- Document 01, "Line sheet": a header that is right, number by number.
 use mathlib.Core.Path.{_≡_}
 use mathlib.Core.List.{List}
 use Prim.Native.Nat.{ℕ, _≤_}

@@ -1,3 +1,4 @@
 pub mod Sheet
 pub mod Fields
 pub mod Headed
+pub mod Kept

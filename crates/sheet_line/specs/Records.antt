@@ -1,5 +1,4 @@
--- The rules of a table of records as the code meets them, one record at a time.
--- Nobody has to believe this: `kept-of` and `keeps-of` (crates/sheet/proofs/Kept.antt) tie it to the paper's rules.
+-- Document 01, "Line sheet": the rules of a table of records, one record at a time, as numbers.
 use mathlib.Core.Path.{_≡_}
 use mathlib.Core.Bool.{Bool, true, false}
 use Prim.Native.Nat.{ℕ, zero, suc, _+_, _≤_, _<_}

@@ -8,7 +8,7 @@ use Rattle.lists.proofs.Split.{below, earlier}
 use Rattle.train.specs.declared.Gradient.{Gradient}
 use Rattle.sheet_line.specs.Line.{Line}
 use Rattle.sheet_line.specs.Records.{Along}
-use Rattle.sheet.proofs.Kept.{Kept}
+use Rattle.sheet.specs.Kept.{Kept}
 use Rattle.sheet_span.specs.Least.{_≼_, lesser, slope, reach, Holds, Meets}
 use Rattle.sheet_span.specs.Pass.{followed}
 use Rattle.sheet_span.proofs.Order.{≼-trans, lesser-first, lesser-second, lesser-one}

@@ -7,7 +7,7 @@ use borrow.Author.Tests.{le-leb, lt-leb}
 use Rattle.lists.proofs.Split.{below, earlier}
 use Rattle.train.specs.declared.Gradient.{Gradient}
 use Rattle.sheet_line.specs.Line.{Line}
-use Rattle.sheet.proofs.Kept.{Kept}
+use Rattle.sheet.specs.Kept.{Kept}
 use Rattle.sheet_span.specs.Least.{_≼_, lesser, slope, reach, Holds, slopeUpTo, slopeAt, leastOf, Meets, LeastOver}
 use Rattle.sheet_span.proofs.Order.{≼-trans, lesser-first, lesser-second, lesser-one, ≼-same}
 use Rattle.sheet_span.specs.Pass.{followed}

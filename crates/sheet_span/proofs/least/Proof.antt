@@ -14,7 +14,8 @@ use Rattle.train.specs.Gradient.{gradientOf}
 use Rattle.sheet_mark.specs.declared.Move.{Move}
 use Rattle.sheet_mark.specs.Answer.{stepOn}
 use Rattle.sheet.specs.Sheet.{lineOf, accepted}
-use Rattle.sheet.proofs.Kept.{Kept, headed-of}
+use Rattle.sheet.proofs.Kept.{headed-of}
+use Rattle.sheet.specs.Kept.{Kept}
 use Rattle.sheet_mark.proofs.Walk.{on-line, off-line, step-on}
 use Rattle.sheet_span.specs.Least.{slope}
 use Rattle.sheet_span.specs.Pass.{followed}
