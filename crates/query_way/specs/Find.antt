@@ -1,30 +1,50 @@
 -- What the code finds: a refusal, or the way, whose gradients are of the sheet's span.
 use mathlib.Core.Path.{_≡_}
 use mathlib.Core.List.{List}
-use Prim.Native.Nat.{ℕ, _<_}
+use Prim.Native.Nat.{ℕ, _+_, _<_}
 use Rattle.train.specs.declared.Gradient.{Gradient}
 use Rattle.train.specs.Gradient.{Moderate}
 use Rattle.train.specs.Refusal.{firstOf}
+use Rattle.train.specs.Judged.{Judged}
+use Rattle.sheet_line.specs.Line.{Line}
 use Rattle.sheet.specs.Sheet.{lineOf}
+use Rattle.sheet_span.specs.Least.{LeastOver}
 use Rattle.query_way.specs.declared.Way.{Way}
 use Rattle.query_way.specs.declared.Found.{Found}
 use Rattle.query_way.specs.declared.Found.the-variants.{Refused, Ready}
-use Rattle.query_way.specs.Way.{wayRefusals, wayOf}
+use Rattle.query_way.specs.Way.{wayRefusals, wayRules, pastOf, wayOf, Leads}
 
-pub record Slope (least r : Gradient) : Type 0 where
-  pub value : r ≡ least
+-- the gradient of a span
+pub record Slope (l : Line) (from to : ℕ) (r : Gradient) : Type 0 where
+  pub least : LeastOver l from to r
   pub moderate : Moderate r
+
+-- the gradient of an overlap
+pub record Past (l : Line) (place overlap : ℕ) (r : Gradient) : Type 0 where
+  pub value : r ≡ pastOf l place overlap
+  pub moderate : Moderate r
+  pub least : 0 < overlap → LeastOver l place (place + overlap) r
 
 module _ (s : List ℕ) (signal head : ℕ) where
   abbrev pub refusal : ℕ
   refusal = firstOf (wayRefusals s signal head)
 
   pub record IsWay (w : Way) : Type 0 where
-    pub accepted : refusal ≡ 0
     pub way : w ≡ wayOf (lineOf s) signal head
+    pub leads : Leads (lineOf s) signal head w
     pub ahead : Moderate (w .ahead)
     pub past : Moderate (w .past)
 
-  abbrev pub Finds : Found → Type 0
-  Finds (Refused n) = (0 < n) × (refusal ≡ n)
-  Finds (Ready w) = IsWay w
+  -- document 01's number for each case, and what it says
+  abbrev pub number : Found → ℕ
+  number (Refused n) = n
+  number (Ready w) = 0
+
+  abbrev pub Says : Found → Type 0
+  Says (Refused n) = 0 < n
+  Says (Ready w) = IsWay w
+
+  pub record Finds (r : Found) : Type 0 where
+    pub refused : refusal ≡ number r
+    pub spans : Judged (wayRules s signal head) (number r)
+    pub says : Says r

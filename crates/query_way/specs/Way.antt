@@ -7,14 +7,20 @@ use lib.Dec.{leb, ltb, eqb}
 use Rattle.train.specs.declared.Gradient.{Gradient}
 use Rattle.train.specs.Units.{metres}
 use Rattle.train.specs.Refusal.{Refusal, _gives_}
+use Rattle.train.specs.Judged.{Rule, _keeps_}
 use Rattle.sheet_line.specs.Line.{Line}
 use Rattle.sheet.specs.Sheet.{lineOf, accepted}
-use Rattle.sheet_span.specs.Least.{slopeAt, leastOver}
+use Rattle.sheet.specs.Kept.{sheetRule}
+use Rattle.sheet_span.specs.Least.{slopeAt, leastOver, LeastOver}
 use Rattle.query_way.specs.declared.Way.{Way}
 
 -- 7 for bytes that are no sheet, 8 for no such signal, 9 for a head beyond the signal
 abbrev pub wayRefusals : List ℕ → ℕ → ℕ → List Refusal
 wayRefusals s k head = let l = lineOf s in not (accepted s) gives 7 ∷ leb (l .signals) k gives 8 ∷ ltb (l .place k) head gives 9 ∷ []
+
+-- the same in words of its own
+abbrev pub wayRules : List ℕ → ℕ → ℕ → List Rule
+wayRules s k head = let l = lineOf s in sheetRule s ∷ 8 keeps (k < l .signals) ∷ 9 keeps (head ≤ l .place k) ∷ []
 
 -- the gradient of the overlap: the least over the points from the signal up to but not including the overlap's end.
 -- An overlap of no length has none; nothing asks for it then.
@@ -25,6 +31,15 @@ pastOf l place overlap = cond (eqb overlap 0) (record { rise = 0; fall = 0 }) (l
 unfoldable pub wayOf : Line → ℕ → ℕ → Way
 wayOf l k head =
     record { distance = metres (l .place k - head); ahead = leastOver l head (l .place k + 1); overlap = metres (l .overlap k); past = pastOf l (l .place k) (l .overlap k) }
+
+-- In words of its own, what the way is, whatever stands for it: the signal is the distance ahead of the head, the overlap is the line's,
+-- the gradient ahead is the least over the points from head to signal, both included, and that of an overlap which has a length the
+-- least over its points.
+pub record Leads (l : Line) (k head : ℕ) (w : Way) : Type 0 where
+  pub signal : head + w .distance .0 ≡ l .place k
+  pub overlap : w .overlap .0 ≡ l .overlap k
+  pub ahead : LeastOver l head (l .place k + 1) (w .ahead)
+  pub past : 0 < w .overlap .0 → LeastOver l (l .place k) (l .place k + l .overlap k) (w .past)
 
 -- two lines agree on a signal each, and on the gradient at each point from head up to but not including the overlap's end,
 -- the signal's own point always included

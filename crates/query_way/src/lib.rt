@@ -4,9 +4,7 @@ ghost use mathlib.Core.Path.{_≡_};
 ghost use mathlib.Core.Bool.{true};
 ghost use Prim.Native.Nat.{_+_, _≤_, _<_};
 ghost use Rattle.sheet.specs.Sheet.{lineOf, accepted};
-ghost use Rattle.sheet_span.specs.Least.{leastOver};
-ghost use Rattle.query_way.specs.Way.{pastOf};
-ghost use Rattle.query_way.specs.Find.{Finds, Slope};
+ghost use Rattle.query_way.specs.Find.{Finds, Slope, Past};
 use train::Gradient;
 use train::Metre;
 
@@ -27,7 +25,7 @@ pub enum Found {
 // The least gradient from the head to the signal, both included.
 fn ahead(s: &[u8], head: Metre, place: Metre) -> Gradient
     requires { ⌜ (accepted (now s) ≡ true) × (head .0 ≤ place .0) × (place .0 < lineOf (now s) .end) ⌝ }
-    ensures { λ r. ⌜ Slope (leastOver (lineOf (now (s .entry))) (head .0) (place .0 + 1)) r ⌝ }
+    ensures { λ r. ⌜ Slope (lineOf (now (s .entry))) (head .0) (place .0 + 1) r ⌝ }
 {
     let end = place.0 + 1;
     sheet_span::least(s, head, Metre(end))
@@ -36,7 +34,7 @@ fn ahead(s: &[u8], head: Metre, place: Metre) -> Gradient
 // The least gradient from the signal up to but not including the overlap's end.
 fn past(s: &[u8], place: Metre, overlap: Metre) -> Gradient
     requires { ⌜ (accepted (now s) ≡ true) × (place .0 + overlap .0 ≤ lineOf (now s) .end) ⌝ }
-    ensures { λ r. ⌜ Slope (pastOf (lineOf (now (s .entry))) (place .0) (overlap .0)) r ⌝ }
+    ensures { λ r. ⌜ Past (lineOf (now (s .entry))) (place .0) (overlap .0) r ⌝ }
 {
     let from = place.0;
     let length = overlap.0;

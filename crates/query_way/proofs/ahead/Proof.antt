@@ -1,5 +1,6 @@
 -- `ahead`: the span ends behind the signal's own point.
 use denote.Ref.{now}
+use Prim.Native.Nat.{_+_}
 use native.Mathlib.Omega.{arith}
 use Rattle.sheet.specs.Sheet.{lineOf}
 use Rattle.sheet.proofs.Kept.{headed-of}
@@ -14,7 +15,8 @@ least-requires : tie.Need-least-requires
 least-requires c κs = let s = c .before .before in (s .pre .0, omega (arith, s .pre .1), omega (arith, s .pre .2))
 
 returns : tie.Need-returns
-returns c = let s = c .before .before .before in slope-of (lineOf (now (s .args .s))) _ _ _ (headed-of _ (s .pre .0) .1) (c .least .ensures)
+returns c =
+    let s = c .before .before .before in slope-of (lineOf (now (s .args .s))) (s .args .head .0) (s .args .place .0 + 1) _ (headed-of _ (s .pre .0) .1) (c .least .ensures)
 
 pub ahead-spec : {M : Type 1} → statement M
 ahead-spec = tie.close (tie.spec add-end least-requires returns)
