@@ -38,8 +38,8 @@ enum approach_refusal {
     APPROACH_REFUSED_ROOM = 11,         /* the list or buffer is too short for the output */
 };
 
-/* A train. The first two are yes or no: 0 is no, any other byte is yes. So every byte means something, the 255 of other languages'
- * TRUE too; in a `bool` it would be no value of C's. A wider number loses all but its lowest byte here: assign `flags != 0`. */
+/* A train. Its first two fields are yes or no: 0 is no, any other byte yes, also the 255 that is TRUE in other languages and would
+ * be no value of a `bool`. Of a wider number only the lowest byte gets here: assign `(flags & FREIGHT) != 0`. */
 struct approach_train {
     uint8_t freight;          /* brake type: yes is freight, no is passenger */
     uint8_t electropneumatic; /* whether its electropneumatic brake is working */
