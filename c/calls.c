@@ -5,6 +5,7 @@
 #include <string.h>
 
 _Static_assert(sizeof(struct approach_train) == 16 && offsetof(struct approach_train, braked_weight) == 4, "train");
+_Static_assert(offsetof(struct approach_train, freight) == 0 && offsetof(struct approach_train, electropneumatic) == 1, "its bytes");
 _Static_assert(sizeof(struct approach_distances) == 20, "distances");
 _Static_assert(sizeof(struct approach_move) == 20 && offsetof(struct approach_move, mark) == 16, "move");
 _Static_assert(sizeof(struct approach_answer) == 28, "answer");
@@ -57,6 +58,28 @@ static void models(void) {
     struct approach_limits limits = approach_ceilings(111);
     bool right = limits.w == 13804 && limits.sbi == 13926 && limits.ebi == 14229;
     expect("ceilings", limits.refusal == APPROACH_ACCEPTED && right);
+}
+
+/* As for EBI above, without EP and then as freight: T = 1 + 1.3 * (3.5 + 0.15 * 4) and 1 + 1.3 * (13.5 + 0.04 * 4). */
+enum { EBI_WITHOUT_EP = 158250, EBI_FREIGHT = 468950 };
+
+static uint32_t ebi(uint8_t freight, uint8_t electropneumatic) {
+    struct approach_train t = train;
+    t.freight = freight;
+    t.electropneumatic = electropneumatic;
+    return approach_step(t, 90, 90, 0).ebi;
+}
+
+/* 0 is no, and any other byte yes. */
+static void bytes(void) {
+    bool others = true;
+    for (unsigned byte = 1; byte < 256; byte++) {
+        others = others && ebi(byte, 0) == EBI_FREIGHT && ebi(0, byte) == EBI;
+    }
+    expect("no by 0", ebi(0, 0) == EBI_WITHOUT_EP);
+    expect("no and yes by C's own", ebi(true, false) == EBI_FREIGHT && ebi(false, true) == EBI);
+    expect("freight by 254 and 255", ebi(254, 0) == EBI_FREIGHT && ebi(255, 0) == EBI_FREIGHT);
+    expect("yes by every other byte", others);
 }
 
 /* From V0 0 to a top speed of 330 a row takes all its places. */
@@ -159,6 +182,7 @@ static void refusals(void) {
 
 int main(void) {
     models();
+    bytes();
     longest_row();
     sheets();
     sheet_lengths();

@@ -52,7 +52,7 @@ pub struct Train {
 impl From<Train> for raw::Train {
     fn from(train: Train) -> raw::Train {
         let Train { brake, electropneumatic, braked_weight, length, top_speed } = train;
-        let freight = brake == Brake::Freight;
+        let (freight, electropneumatic) = ((brake == Brake::Freight).into(), electropneumatic.into());
         raw::Train { freight, electropneumatic, braked_weight, length: length.0, top_speed: top_speed.0 }
     }
 }

@@ -1,14 +1,14 @@
 //! The calls as `include/approach.h` declares them, each safe since it takes every input: an answer is the number 0 and its
 //! fields, or a refusal's number and zeros.
 
-/// A train.
+/// A train. The first two are yes or no: 0 is no, any other byte is yes.
 #[repr(C)]
 #[derive(Clone, Copy, Debug, PartialEq, Eq)]
 pub struct Train {
-    /// Brake type: freight, else passenger.
-    pub freight: bool,
+    /// Brake type: yes is freight, no is passenger.
+    pub freight: u8,
     /// Whether the electropneumatic brake is working.
-    pub electropneumatic: bool,
+    pub electropneumatic: u8,
     /// Braked weight percentage.
     pub braked_weight: u32,
     /// Metres.

@@ -61,6 +61,31 @@ fn calls_declared() {
     }
 }
 
+/// What a struct has in a text, from the line that begins it on: each field's name and type, both as Rust writes them.
+fn fields(text: &str, beginning: &str) -> Vec<(String, String)> {
+    let lines = text.lines().skip_while(|line| *line != beginning).skip(1).take_while(|line| !line.starts_with('}'));
+    let of_rust = |line: &str| {
+        let (name, kind) = line.strip_prefix("pub ")?.strip_suffix(',')?.split_once(": ")?;
+        Some((name.to_string(), kind.to_string()))
+    };
+    let of_c = |line: &str| {
+        let (kind, name) = line.split_once(';')?.0.split_once("_t ")?;
+        Some((name.to_string(), kind.replace("uint", "u").replace("int", "i")))
+    };
+    lines.map(str::trim).filter_map(|line| of_rust(line).or_else(|| of_c(line))).collect()
+}
+
+/// C, Rust and the crate that is proved have the same fields of a train, of the same width; the crate has names of one word.
+#[test]
+fn fields_of_a_train() {
+    let of_c = fields(HEADER, "struct approach_train {");
+    assert_eq!(of_c, fields(include_str!("../src/raw.rs"), "pub struct Train {"));
+    let proved = fields(include_str!("../../../crates/approach_train/src/lib.rt"), "pub struct Entered {");
+    let kinds = |fields: Vec<(String, String)>| fields.into_iter().map(|(_, kind)| kind).collect::<Vec<_>>();
+    assert_eq!(kinds(proved), ["u8", "u8", "u32", "u32", "u32"]);
+    assert_eq!(kinds(of_c), ["u8", "u8", "u32", "u32", "u32"]);
+}
+
 #[test]
 fn refusals() {
     let wanted = Refusal::ALL.map(|refusal| (name(refusal).to_string(), refusal.number()));

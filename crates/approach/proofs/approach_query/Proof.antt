@@ -10,7 +10,7 @@ query-requires : tie.Need-query-requires
 query-requires c κs = search needs
 
 returns : tie.Need-returns
-returns c = rw (c .before .train-of .ensures) at (c .query .ensures)
+returns c = rw (c .before .train-of .ensures .0) at (c .query .ensures)
 
 pub approach-query-spec : {M : Type 1} → statement M
 approach-query-spec = tie.close (tie.spec train-of-requires query-requires returns)

@@ -14,7 +14,7 @@ step-requires c κs = search needs
 returns : tie.Need-returns
 returns c =
     let s = c .before .before in
-    rw (c .before .train-of .ensures, toZ-ofZ w32 (s .args .gradient) (s .fits .gradient)) at (c .step .ensures)
+    rw (c .before .train-of .ensures .0, toZ-ofZ w32 (s .args .gradient) (s .fits .gradient)) at (c .step .ensures)
 
 pub approach-step-spec : {M : Type 1} → statement M
 approach-step-spec = tie.close (tie.spec train-of-requires step-requires returns)

@@ -17,7 +17,7 @@ same-length c = search needs
 returns : tie.Need-returns
 returns c =
     let s = c .before .before .before .before .before .before in
-    rw (c .before .before .before .before .train-of .ensures, toZ-ofZ w32 (s .args .gradient) (s .fits .gradient)) at (c .before .before .row .ensures)
+    rw (c .before .before .before .before .train-of .ensures .0, toZ-ofZ w32 (s .args .gradient) (s .fits .gradient)) at (c .before .before .row .ensures)
 
 pub row-of-spec : {M : Type 1} → statement M
 row-of-spec = tie.close (tie.spec train-of-requires row-requires same-length returns)

@@ -18,8 +18,8 @@ fn input(random: &mut Random) -> Input {
     let v = random.below(331) as u32;
     Input {
         train: Train {
-            freight: random.below(2) == 0,
-            electropneumatic: random.below(2) == 0,
+            freight: (random.below(2) == 0).into(),
+            electropneumatic: (random.below(2) == 0).into(),
             braked_weight: 100 + 5 * random.below(13) as u32,
             length: random.below(1001) as u32,
             top_speed: 330,

@@ -31,9 +31,9 @@ struct Motion {
 
 pub(crate) fn course(train: Train, gradient: i32) -> Course {
     let square = |l: u64| l * l;
-    let passenger = 3_500_000 + 15 * square(if train.electropneumatic { 0 } else { train.length as u64 });
+    let passenger = 3_500_000 + 15 * square(if train.electropneumatic > 0 { 0 } else { train.length as u64 });
     let freight = 13_500_000 + 4 * square(train.length as u64);
-    let delay = if train.freight { passenger.max(freight) } else { passenger };
+    let delay = if train.freight > 0 { passenger.max(freight) } else { passenger };
     let (up7, down7) = slope(gradient);
     Course {
         t8: 100_000_000 + 130 * delay,
