@@ -5,7 +5,7 @@
 #include <string.h>
 
 _Static_assert(sizeof(struct approach_train) == 16 && offsetof(struct approach_train, braked_weight) == 4, "train");
-_Static_assert(offsetof(struct approach_train, freight) == 0 && offsetof(struct approach_train, electropneumatic) == 1, "its bytes");
+_Static_assert(sizeof(bool) == 1 && offsetof(struct approach_train, electropneumatic) == 1, "its bytes");
 _Static_assert(sizeof(struct approach_distances) == 20, "distances");
 _Static_assert(sizeof(struct approach_move) == 20 && offsetof(struct approach_move, mark) == 16, "move");
 _Static_assert(sizeof(struct approach_answer) == 28, "answer");
@@ -63,10 +63,11 @@ static void models(void) {
 /* As for EBI above, without EP and then as freight: T = 1 + 1.3 * (3.5 + 0.15 * 4) and 1 + 1.3 * (13.5 + 0.04 * 4). */
 enum { EBI_WITHOUT_EP = 158250, EBI_FREIGHT = 468950 };
 
+/* The bytes go in as another language would put them there. */
 static uint32_t ebi(uint8_t freight, uint8_t electropneumatic) {
     struct approach_train t = train;
-    t.freight = freight;
-    t.electropneumatic = electropneumatic;
+    memcpy(&t.freight, &freight, 1);
+    memcpy(&t.electropneumatic, &electropneumatic, 1);
     return approach_step(t, 90, 90, 0).ebi;
 }
 

@@ -12,7 +12,7 @@
 #ifndef APPROACH_H
 #define APPROACH_H
 
-#include <stdbool.h> /* for callers' `true` and `false` */
+#include <stdbool.h>
 #include <stddef.h>
 #include <stdint.h>
 
@@ -38,14 +38,14 @@ enum approach_refusal {
     APPROACH_REFUSED_ROOM = 11,         /* the list or buffer is too short for the output */
 };
 
-/* A train. Its first two fields are yes or no: 0 is no, any other byte yes, also the 255 that is TRUE in other languages and would
- * be no value of a `bool`. Of a wider number only the lowest byte gets here: assign `(flags & FREIGHT) != 0`. */
+/* A train. Of the first two fields the library takes the byte: 0 is no and any other yes, also one that is no value of C's own
+ * `bool`, such as the 255 that is TRUE in other languages. */
 struct approach_train {
-    uint8_t freight;          /* brake type: yes is freight, no is passenger */
-    uint8_t electropneumatic; /* whether its electropneumatic brake is working */
-    uint32_t braked_weight;   /* braked weight percentage, 45 to 160 in steps of 5 */
-    uint32_t length;          /* metres, 0 to 1,000 */
-    uint32_t top_speed;       /* km/h of the service regime, 1 to 330 */
+    bool freight;           /* brake type: freight, else passenger */
+    bool electropneumatic;  /* whether its electropneumatic brake is working */
+    uint32_t braked_weight; /* braked weight percentage, 45 to 160 in steps of 5 */
+    uint32_t length;        /* metres, 0 to 1,000 */
+    uint32_t top_speed;     /* km/h of the service regime, 1 to 330 */
 };
 
 /* The step model's four distances in millimetres, each raised to the least whole one not below the exact value. */

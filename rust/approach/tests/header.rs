@@ -61,7 +61,8 @@ fn calls_declared() {
     }
 }
 
-/// What a struct has in a text, from the line that begins it on: each field's name and type, both as Rust writes them.
+/// What a struct has in a text, from the line that begins it on: each field's name and type, both as Rust writes them. C's `bool`
+/// is a byte.
 fn fields(text: &str, beginning: &str) -> Vec<(String, String)> {
     let lines = text.lines().skip_while(|line| *line != beginning).skip(1).take_while(|line| !line.starts_with('}'));
     let of_rust = |line: &str| {
@@ -69,8 +70,8 @@ fn fields(text: &str, beginning: &str) -> Vec<(String, String)> {
         Some((name.to_string(), kind.to_string()))
     };
     let of_c = |line: &str| {
-        let (kind, name) = line.split_once(';')?.0.split_once("_t ")?;
-        Some((name.to_string(), kind.replace("uint", "u").replace("int", "i")))
+        let (kind, name) = line.split_once(';')?.0.split_once(' ')?;
+        Some((name.to_string(), kind.replace("bool", "uint8_t").replace("uint", "u").replace("int", "i").replace("_t", "")))
     };
     lines.map(str::trim).filter_map(|line| of_rust(line).or_else(|| of_c(line))).collect()
 }
