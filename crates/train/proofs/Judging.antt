@@ -14,7 +14,7 @@ use Rattle.train.specs.declared.Train.{Train}
 use Rattle.train.specs.declared.Gradient.{Gradient}
 use Rattle.train.specs.Gradient.{Moderate}
 use Rattle.train.specs.Refusal.{Refusal, _gives_, firstOf, weightRefusals, trainRefusals, gradientRefusals, strongEnough}
-use Rattle.train.specs.Judged.{Rule, _keeps_, Judged, weightRule, lengthRule, TopSpeed, trainRules, gradientRule, brakeRule}
+use Rattle.train.specs.Judged.{Rule, _keeps_, AllKept, FirstBroken, Judged, weightRule, lengthRule, TopSpeed, trainRules, gradientRule, brakeRule}
 use Rattle.train.proofs.Refusals.{first-before}
 
 -- 0 or above
@@ -81,6 +81,20 @@ _then_ {r} {rs} {a} {b} s j = ⊎-elim later now (some (firstOf a))
 
 pub no-more : Judges [] []
 no-more = record { judged = record { accepted = λ z. tt; refused = λ l. absurd (let i : 0 < 0 = l in omega arith) } }
+
+-- more rules behind those that decide, and behind those that are all kept
+pub stays-broken : (rs more : List Rule) (n : ℕ) → FirstBroken n rs → FirstBroken n (rs ++ more)
+stays-broken [] more n b = absurd b
+stays-broken (r ∷ rs) more n b = ⊎-elim inl (λ (k, l). inr (k, stays-broken rs more n l)) b
+
+pub before-more : (rs more : List Rule) (n : ℕ) → 0 < n → Judged rs n → Judged (rs ++ more) n
+before-more rs more n l j = record { accepted = λ z. absurd (let i : ⊥ = omega arith in i); refused = λ i. stays-broken rs more n (j .refused l) }
+
+pub behind-kept : (rs more : List Rule) (n : ℕ) → AllKept rs → Judged more n → Judged (rs ++ more) n
+behind-kept [] more n k j = j
+behind-kept (r ∷ rs) more n k j =
+    let i = behind-kept rs more n (k .1) j in
+    record { accepted = λ z. (k .0, i .accepted z); refused = λ l. inr (k .0, i .refused l) }
 
 -- two conditions of one number
 infixr 60 _and_
