@@ -1,11 +1,12 @@
 -- What the code finds out, refusal by refusal, makes the answer of the definition; an accepted one keeps the third demand.
 use mathlib.Core.Path.{_≡_, refl, sym, _∙_}
 use mathlib.Core.Bool.{Bool, true, false, not, cond}
-use mathlib.Core.List.{List, _++_}
+use mathlib.Core.List.{List, [], _++_}
+use mathlib.Core.Logic.{inl, inr}
 use Prim.Native.Nat.{ℕ, _<_}
 use native.Mathlib.Omega.{arith}
-use borrow.Author.Tests.{le-ltb, ne-eqb}
-use lib.Dec.{lit<}
+use borrow.Author.Tests.{lt-ltb, le-ltb, ltb-true, leb-true, leb-false, ne-eqb, not-true, not-false}
+use lib.Dec.{ltb, lit<}
 use Rattle.train.specs.declared.Kmh.{Kmh}
 use Rattle.train.specs.declared.Metre.{Metre}
 use Rattle.train.specs.declared.Train.{Train}
@@ -14,15 +15,23 @@ use Rattle.train.specs.declared.Coefficients.{Coefficients}
 use Rattle.train.specs.Units.{kmh}
 use Rattle.train.specs.Coefficients.{Within}
 use Rattle.train.specs.Refusal.{firstOf, trainRefusals}
+use Rattle.train.specs.Judged.{Judged}
+use Rattle.train.proofs.Judging.{Settles, Judges, _then_, _and_, no-more, told, before-more, behind-kept, at-least, below, weight-settles, length-settles, top-settles}
+use Rattle.train.proofs.Lending.{refused-demand, given-demand}
 use Rattle.train.proofs.Refusals.{Rising, rising-before, train-rising, first-after, first-before}
 use Rattle.step_braking.specs.Braking.{strong}
 use Rattle.ceilings.specs.Ceilings.{limitsOf}
 use Rattle.ceilings.proofs.Agrees.{as-printed}
+use Rattle.ramp.specs.Answer as ramp
 use Rattle.ramp.specs.Answer.{timeRefusals}
+use Rattle.sheet.specs.Sheet.{lineOf}
+use Rattle.sheet.proofs.Kept.{sheet-settles}
+use Rattle.lists.proofs.Holding.{and-left, and-right}
+use Rattle.exact.specs.Fraction.{_over_, _≤q_}
 use Rattle.query_way.specs.declared.Way.{Way}
 use Rattle.query_way.specs.declared.Found.{Found}
 use Rattle.query_way.specs.declared.Found.the-variants.{Refused, Ready}
-use Rattle.query_way.specs.Way.{wayRefusals}
+use Rattle.query_way.specs.Way.{wayRefusals, Leads}
 use Rattle.query_way.specs.Find.{Finds}
 use Rattle.query_permitted.specs.declared.Permitted.the-variants.{Weak, Release, Curve}
 use Rattle.query_release.specs.Release.{releaseOf, weakPast}
@@ -31,8 +40,9 @@ use Rattle.query_permitted.specs.Find.{Steady, Permits}
 use Rattle.query.specs.declared.Answer.{Answer}
 use Rattle.query.specs.Demand.{pastAt}
 use Rattle.query.specs.Answer.{refused, answered, release, brakeRefusals, accepted, inputs, wayTo, queryRefusals, answerOf, QueryAnswers}
+use Rattle.query.specs.Rules.{timesRule, Enough, TooWeak, brakingPast, brakingAhead, inputRules, brakeRules, queryRules}
 use Rattle.query.specs.Begin.{Fit, Starts, answerAt, answerOn}
-use Rattle.query.proofs.Third.{fit-ahead, kept}
+use Rattle.query.proofs.Third.{fit-ahead, creeps, kept}
 
 -- the refusals go by rising numbers, so the lowest that applies is the answer (the train's `lowest` and `applies`)
 pub query-rising : (k : Coefficients) (t : Train) (tm tr : ℕ) (s : List ℕ) (signal head : ℕ) → Rising 1 (queryRefusals k t tm tr s signal head)
@@ -40,6 +50,9 @@ query-rising k t tm tr s signal head = (tt, (tt, (tt, (tt, (tt, (tt, (tt, (tt, (
 
 pub times-rising : (tm tr : ℕ) → Rising 1 (timeRefusals tm tr)
 times-rising tm tr = (tt, (tt, (tt, tt)))
+
+times-settles : (tm tr : ℕ) → Settles (timesRule tm tr) (timeRefusals tm tr)
+times-settles tm tr = at-least 6 tt tm 2000 and at-least 6 tt 1 tr and at-least 6 tt tr 3000
 
 -- the steps of the code
 module _ (k : Coefficients) (t : Train) (g : Gradient) (d : Metre) (v0 : Kmh) where
@@ -75,13 +88,14 @@ module _ (t : Train) (tm tr : ℕ) (s : List ℕ) (signal head : ℕ) where
     pub by-times : (n : ℕ) → 0 < n → n ≡ firstOf (timeRefusals tm tr) → firstOf (inputs t tm tr s signal head) ≡ n
     by-times n l e = later ∙ first-before (timeRefusals tm tr) (wayRefusals s signal head) (λ z. omega arith) ∙ sym e
 
-    module _ (y : firstOf (timeRefusals tm tr) ≡ 0) where
+    module _ (late : firstOf (timeRefusals tm tr) ≡ 0) where
       by-way : firstOf (inputs t tm tr s signal head) ≡ firstOf (wayRefusals s signal head)
-      by-way = later ∙ first-after 0 (timeRefusals tm tr) (wayRefusals s signal head) (times-rising tm tr) y
+      by-way = later ∙ first-after 0 (timeRefusals tm tr) (wayRefusals s signal head) (times-rising tm tr) late
 
       pub started : (r : Found) → Finds s signal head r → Starts t tm tr s signal head r
-      started (Refused n) (l, e) = (l, by-way ∙ e)
-      started (Ready w) i = record { accepted = by-way ∙ i .accepted; way = i .way; fit = record { train = z; times = y; ahead = i .ahead; past = i .past } }
+      started (Refused n) i = (i .says, by-way ∙ i .refused)
+      started (Ready w) i =
+          let y = i .says in record { accepted = by-way ∙ i .refused; way = y .way; leads = y .leads; fit = record { train = z; times = late; ahead = y .ahead; past = y .past } }
 
 module _ (k : Coefficients) (t : Train) (tm tr : ℕ) (s : List ℕ) (signal head : ℕ) where
   abbrev Answers : Answer → Type 0
@@ -90,15 +104,27 @@ module _ (k : Coefficients) (t : Train) (tm tr : ℕ) (s : List ℕ) (signal hea
   pub inputs-rising : Rising 1 (inputs t tm tr s signal head)
   inputs-rising = rising-before 1 (inputs t tm tr s signal head) (brakeRefusals k t tm tr (wayTo s signal head)) (query-rising k t tm tr s signal head)
 
-  refused-by : (n : ℕ) → 0 < n → firstOf (queryRefusals k t tm tr s signal head) ≡ n → Answers (refused n)
+  inputs-judge : Judges (inputRules k t tm tr s signal head) (inputs t tm tr s signal head)
+  inputs-judge =
+      weight-settles (t .weight) then length-settles t then top-settles t then times-settles tm tr then sheet-settles s then below 8 tt signal (lineOf s .signals) then at-least 9 tt head (lineOf s .place signal) then no-more
+
+  refused-by : (n : ℕ) → 0 < n → firstOf (queryRefusals k t tm tr s signal head) ≡ n → Judged (queryRules k t tm tr s signal head) n → Answers (refused n)
   unfolding answerOf
-  refused-by n l e =
-      record { answer = rw (e, ne-eqb n 0 (λ i. omega arith)); demand = λ z. absurd (let i : n ≡ 0 = z in omega arith); ceilings = λ z. absurd (let i : n ≡ 0 = z in omega arith) }
+  refused-by n l e j =
+      record {
+        answer = rw (e, ne-eqb n 0 (λ i. omega arith));
+        lent = refused-demand n _ [] (refl, (refl, (refl, (refl, (refl, (refl, tt))))));
+        spans = j;
+        demand = λ z. absurd (let i : n ≡ 0 = z in omega arith);
+        ceilings = λ z. absurd (let i : n ≡ 0 = z in omega arith);
+      }
 
   pub by-inputs : (n : ℕ) → 0 < n → firstOf (inputs t tm tr s signal head) ≡ n → Answers (refused n)
-  by-inputs n l e = refused-by n l (first-before (inputs t tm tr s signal head) (brakeRefusals k t tm tr (wayTo s signal head)) (λ i. omega arith) ∙ e)
+  by-inputs n l e =
+      refused-by n l (first-before (inputs t tm tr s signal head) (brakeRefusals k t tm tr (wayTo s signal head)) (λ i. omega arith) ∙ e)
+      (before-more (inputRules k t tm tr s signal head) (brakeRules k t tm tr s signal head) n l (told inputs-judge (sym e) .1))
 
-  module _ (z : firstOf (inputs t tm tr s signal head) ≡ 0) (f : Fit t tm tr (wayTo s signal head)) (within : Within k) (steady : Steady k) where
+  module _ (z : firstOf (inputs t tm tr s signal head) ≡ 0) (f : Fit t tm tr (wayTo s signal head)) (leads : Leads (lineOf s) signal head (wayTo s signal head)) (within : Within k) (steady : Steady k) where
     abbrev w : Way
     w = wayTo s signal head
 
@@ -111,6 +137,29 @@ module _ (k : Coefficients) (t : Train) (tm tr : ℕ) (s : List ℕ) (signal hea
     decides : firstOf (queryRefusals k t tm tr s signal head) ≡ cond weak 10 (cond (not enough) 10 0)
     decides = first-after 0 (inputs t tm tr s signal head) (brakeRefusals k t tm tr w) inputs-rising z
 
+    -- the inputs keep their rules, so the brake's decides
+    by-brake : (n : ℕ) → Judged (brakeRules k t tm tr s signal head) n → Judged (queryRules k t tm tr s signal head) n
+    by-brake n j = behind-kept (inputRules k t tm tr s signal head) (brakeRules k t tm tr s signal head) n (told inputs-judge (sym z) .1 .accepted refl) j
+
+    weak-brake : TooWeak k t tm tr w → Judged (queryRules k t tm tr s signal head) 10
+    weak-brake h = by-brake 10 (record { accepted = λ i. absurd (let j : 10 ≡ 0 = i in omega arith); refused = λ l. inl (refl, (w, (leads, h))) })
+
+    weak-past : weak ≡ true → TooWeak k t tm tr w
+    unfolding weakPast ramp.strong
+    weak-past e = let some = ltb 0 (w .overlap .0) in inl (ltb-true _ _ (and-left some _ e), leb-false _ _ (not-true _ (and-right some _ e)))
+
+    strong-past : weak ≡ false → 0 < w .overlap .0 → (5 over 100) ≤q brakingPast k t tm tr w
+    unfolding weakPast ramp.strong
+    strong-past e l = leb-true _ _ (not-false _ (rw (lt-ltb _ _ l) at e))
+
+    weak-ahead : weak ≡ false → enough ≡ false → TooWeak k t tm tr w
+    unfolding strong
+    weak-ahead a b = inr (release k t tm tr w .0, (creeps k t tm tr w f within a, leb-false _ _ b))
+
+    strong-ahead : enough ≡ true → (5 over 100) ≤q brakingAhead k t tm tr w (release k t tm tr w .0)
+    unfolding strong
+    strong-ahead b = leb-true _ _ b
+
     given : weak ≡ false → enough ≡ true → Answers (accepted k t tm tr w)
     unfolding answerOf limitsOf
     given a b =
@@ -118,13 +167,20 @@ module _ (k : Coefficients) (t : Train) (tm tr : ℕ) (s : List ℕ) (signal hea
         let h = fit-ahead k t tm tr w f within .top in
         let i = d .marked .to in
         let P = permittedOf k t (w .ahead) (release k t tm tr w) (w .distance) in
-        record { answer = rw (decides, a, b) refl; demand = λ y. d; ceilings = λ y. rw (le-ltb 330 P (omega arith)) (as-printed (kmh P)) }
+        let e : Enough k t tm tr w = (strong-past a, (release k t tm tr w .0, (creeps k t tm tr w f within a, strong-ahead b))) in
+        record {
+          answer = rw (decides, a, b) refl;
+          lent = given-demand _;
+          spans = by-brake 0 (record { accepted = λ i. ((w, (leads, e)), tt); refused = λ l. absurd (let j : 0 < 0 = l in omega arith) });
+          demand = λ y. (w, (leads, d));
+          ceilings = λ y. rw (le-ltb 330 P (omega arith)) (as-printed (kmh P));
+        }
 
     pub on-way : Answers (answerOn k t tm tr w)
     unfolding answerOn answerAt
     on-way = go weak enough refl refl
       where
         go : (a b : Bool) → weak ≡ a → enough ≡ b → Answers (cond a (refused 10) (cond b (accepted k t tm tr w) (refused 10)))
-        go true b e g = refused-by 10 (lit< tt) (decides ∙ rw e refl)
+        go true b e g = refused-by 10 (lit< tt) (decides ∙ rw e refl) (weak-brake (weak-past e))
         go false true e g = given e g
-        go false false e g = refused-by 10 (lit< tt) (decides ∙ rw (e, g) refl)
+        go false false e g = refused-by 10 (lit< tt) (decides ∙ rw (e, g) refl) (weak-brake (weak-ahead e g))

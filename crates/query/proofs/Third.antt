@@ -18,7 +18,7 @@ use Rattle.query_way.specs.declared.Way.{Way}
 use Rattle.query_release.specs.Release.{weakPast}
 use Rattle.query_permitted.specs.Permitted.{permittedOf, markOf}
 use Rattle.query_permitted.specs.Find.{Steady}
-use Rattle.query.specs.Demand.{pastAt, Demand}
+use Rattle.query.specs.Demand.{pastAt, Creeps, Demand}
 use Rattle.query.specs.Answer.{release}
 use Rattle.query.specs.Begin.{Fit, FitAhead}
 use Rattle.query.proofs.Creep.{places, low, is-safe, is-tight}
@@ -38,6 +38,17 @@ module _ (k : Coefficients) (t : Train) (tm tr : ℕ) (w : Way) (f : Fit t tm tr
         top = ltb-false _ _ (n .1 .1 .1 .1 .1 .0);
       }
 
+  -- the release speed
+  pub creeps : weakPast k (pastAt t tm tr w 1) (w .overlap) ≡ false → Creeps k t tm tr w (release k t tm tr w .0)
+  creeps past =
+      let l = low t tm tr w f k within in
+      record {
+        safe = is-safe t tm tr w f k within past;
+        tight = is-tight t tm tr w f k within past;
+        most = omega arith;
+        top = omega arith;
+      }
+
   module _ (steady : Steady k) (past : weakPast k (pastAt t tm tr w 1) (w .overlap) ≡ false) (ahead : strong k t (w .ahead) (release k t tm tr w) (release k t tm tr w) ≡ true) where
     abbrev R : ℕ
     R = release k t tm tr w .0
@@ -50,7 +61,6 @@ module _ (k : Coefficients) (t : Train) (tm tr : ℕ) (w : Way) (f : Fit t tm tr
         let e = leb-true _ _ (strong-is k t (w .ahead) c is (kmh R) (kmh R) (le-refl R) ∙ ahead) in
         record {
           numbers = record { places = places t tm tr w f k; distances = distances k within steady t tm tr w R c is e (a .speeds) };
-          safe = is-safe t tm tr w f k within past;
-          tight = is-tight t tm tr w f k within past;
+          creeps = creeps past;
           marked = is-marked k within steady t tm tr w R c is e (a .speeds);
         }

@@ -13,7 +13,9 @@ use Rattle.train.specs.Gradient.{Moderate}
 use Rattle.train.specs.Refusal.{firstOf, trainRefusals}
 use Rattle.step_braking.specs.Braking.{strong}
 use Rattle.ramp.specs.Answer.{timeRefusals}
+use Rattle.sheet.specs.Sheet.{lineOf}
 use Rattle.query_way.specs.declared.Way.{Way}
+use Rattle.query_way.specs.Way.{Leads}
 use Rattle.query_way.specs.declared.Found.{Found}
 use Rattle.query_way.specs.declared.Found.the-variants.{Refused, Ready}
 use Rattle.query_release.specs.Release.{weakPast}
@@ -40,6 +42,7 @@ module _ (t : Train) (tm tr : ℕ) (s : List ℕ) (signal head : ℕ) where
   pub record IsReady (w : Way) : Type 0 where
     pub accepted : firstOf (inputs t tm tr s signal head) ≡ 0
     pub way : w ≡ wayTo s signal head
+    pub leads : Leads (lineOf s) signal head w
     pub fit : Fit t tm tr w
 
   abbrev pub Starts : Found → Type 0

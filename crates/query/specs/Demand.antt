@@ -47,6 +47,13 @@ module _ (k : Coefficients) (t : Train) (tm tr : ℕ) (w : Way) where
     abbrev pub Tight : Type 0
     Tight = 0 < w .overlap .0 → release + 1 ≤ 100 → release + 1 ≤ t .top .0 → (p : ℕ) × ((q : ℕ) × ((0 < q) × (end -q (leeway over 1000) <q place (release + 1) p q)))
 
+    -- the release speed is both, at most 100 and at most the top speed
+    pub record Creeps : Type 0 where
+      pub safe : Safe
+      pub tight : Tight
+      pub most : release ≤ 100
+      pub top : release ≤ t .top .0
+
     -- marked "release" exactly when the release speed's own P is over the distance; the permitted speed is then the release speed.
     -- Otherwise marked "curve": of the speeds from the release speed to the top speed, the permitted speed is the highest up to
     -- which each has its P within the distance.
@@ -61,6 +68,5 @@ module _ (k : Coefficients) (t : Train) (tm tr : ℕ) (w : Way) where
 
     pub record Demand (permitted mark : ℕ) : Type 0 where
       pub numbers : Numbers
-      pub safe : Safe
-      pub tight : Tight
+      pub creeps : Creeps
       pub marked : Marked permitted mark

@@ -44,7 +44,7 @@ returns-2 c =
     let k = c .before .before in
     let a = k .before .before .before .before .before .args in
     let i = ready k in
-    rw (c .answer-on .ensures, c .before .first-values .ensures, i .way) (on-way first (a .train) (a .tm) (a .tr) (now (a .s)) (a .signal) (a .head .0) (i .accepted) (rw (i .way) at (i .fit)) first-within (record { plus = refl; minus = refl }))
+    rw (c .answer-on .ensures, c .before .first-values .ensures, i .way) (on-way first (a .train) (a .tm) (a .tr) (now (a .s)) (a .signal) (a .head .0) (i .accepted) (rw (i .way) at (i .fit)) (rw (i .way) at (i .leads)) first-within (record { plus = refl; minus = refl }))
 
 pub query-spec : {M : Type 1} → statement M
 query-spec =
