@@ -1,1 +1,3 @@
+pub mod Rows
 pub mod Starred
+pub mod Worked
