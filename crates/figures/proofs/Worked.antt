@@ -1,5 +1,5 @@
 -- Figures worked out by hand from document 01's formulas, of the definitions, in one theorem: what the starred ones leave open.
--- K at its thresholds, K0 between 0 and V, a climb without the clamp, the four curves, both delay rows, and the 0.05 m/s² of refusal 10.
+-- K at its thresholds, K0 where V0 is between 0 and V, a climb without the clamp, the four curves, the delay rows, the 0.05 m/s² of refusal 10.
 use mathlib.Core.Path.{refl}
 use mathlib.Core.Bool.{true, false}
 use mathlib.Core.List.{List, [], _∷_}
