@@ -4,18 +4,20 @@ use mathlib.Core.Bool.{Bool, true, false}
 use mathlib.Core.List.{List, [], _∷_}
 use Prim.Native.Nat.{ℕ}
 use lib.IntN.{ℤ}
-use Rattle.exact.specs.Fraction.{_<q_}
+use Rattle.exact.specs.Fraction.{Fraction, _<q_}
 use Rattle.train.specs.declared.BrakeType.{BrakeType}
 use Rattle.train.specs.declared.BrakeType.the-variants.{Passenger, Freight}
 use Rattle.train.specs.declared.Train.{Train}
 use Rattle.train.specs.declared.Coefficients.{Coefficients}
-use Rattle.train.specs.Units.{kmh, metres}
+use Rattle.train.specs.Units.{kmh, metres, inMillimetres}
 use Rattle.train.specs.Gradient.{gradientOf}
 use Rattle.train_delay.specs.Delay.{passengerDelay, freightDelay, delay}
 use Rattle.step_curve.specs.declared.Curve.{Curve}
 use Rattle.step_curve.specs.declared.Curve.the-variants.{Ebi, Sbi, W, P}
 use Rattle.step.specs.declared.Distances.{Distances}
 use Rattle.step.specs.Answer.{stepOf}
+use Rattle.ramp_motion.specs.declared.Overrun.{Overrun}
+use Rattle.ramp_motion.specs.Motion.{placeAt}
 use Rattle.ceilings.specs.Ceilings.{limitsOf}
 
 -- brake type, electropneumatic brake working or not, BW, L
@@ -42,6 +44,8 @@ pub data Row : Type 0 where
   refuses : Train → ℕ → ℕ → ℤ → ℕ → Row
   -- which row is the larger, the train's delay
   larger : Train → BrakeType → Row
+  -- a motion past a signal, a moment in seconds: the place then, in millimetres, raised
+  reaches : Overrun → Fraction → ℕ → Row
   -- a permitted speed's ceilings for W, SBI, EBI
   limits : ℕ → ℕ → ℕ → ℕ → Row
 
@@ -50,6 +54,7 @@ Holds k (gives t v v0 i c n) = let d = stepOf k t (gradientOf i) (kmh v) (kmh v0
 Holds k (refuses t v v0 i n) = stepOf k t (gradientOf i) (kmh v) (kmh v0) .refusal ≡ n
 Holds k (larger t Passenger) = (freightDelay t <q passengerDelay t) × (delay t ≡ passengerDelay t)
 Holds k (larger t Freight) = (passengerDelay t <q freightDelay t) × (delay t ≡ freightDelay t)
+Holds k (reaches o t n) = inMillimetres (placeAt k o t) .0 ≡ n
 Holds k (limits v w sbi ebi) = limitsOf (kmh v) ≡ record { refusal = 0; w = record { 0 = w }; sbi = record { 0 = sbi }; ebi = record { 0 = ebi } }
 
 abbrev pub All : Coefficients → List Row → Type 0

@@ -1,13 +1,15 @@
 -- Figures worked out by hand from document 01's formulas, of the definitions, in one theorem: what the starred ones leave open.
--- K at its thresholds, K0 where V0 is between 0 and V, a climb without the clamp, the four curves, the delay rows, the 0.05 m/s² of refusal 10.
+-- K at its thresholds, K0 where V0 is between 0 and V, a climb without the clamp, the four curves, the delay rows, the 0.05 m/s² of refusal 10,
+-- and the ramp's places in each of its three phases.
 use mathlib.Core.Path.{refl}
 use mathlib.Core.Bool.{true, false}
 use mathlib.Core.List.{List, [], _∷_}
 use lib.IntN.{pos, negsuc}
-use Rattle.exact.specs.Fraction.{raised}
+use Rattle.exact.specs.Fraction.{_over_, raised}
 use Rattle.train.specs.declared.BrakeType.the-variants.{Passenger, Freight}
-use Rattle.train.specs.Units.{speed}
+use Rattle.train.specs.Units.{kmh, speed}
 use Rattle.train.specs.Coefficients.{first}
+use Rattle.train.specs.Gradient.{gradientOf}
 use Rattle.train_delay.specs.Delay.{delay, tf}
 use Rattle.train_slope.specs.Slope.{factor, di, dr}
 use Rattle.step_curve.specs.declared.Curve.the-variants.{Ebi, Sbi, W, P}
@@ -15,7 +17,10 @@ use Rattle.step_braking.specs.Braking.{T, K0, KC, dp, Vβ, strong}
 use Rattle.step_curve.specs.Step.{EBI, SBI, distance}
 use Rattle.step_curve.specs.Step as step
 use Rattle.step.specs.Answer.{stepOf}
-use Rattle.figures.proofs.Rows.{train, ep, freight, Row, gives, refuses, All}
+use Rattle.ramp_motion.specs.Motion as motion
+use Rattle.ramp_motion.specs.Motion.{placeAt}
+use Rattle.ramp.specs.Answer.{overrun}
+use Rattle.figures.proofs.Rows.{train, ep, freight, Row, gives, refuses, reaches, All}
 
 -- Decimals are exact but for those that end in "..". An EP train has tf = 1.3 · 3.5 = 4.55 and T = 5.55; BW 100 has 0.57 · dr = 0.44403.
 pub rows : List Row
@@ -44,9 +49,15 @@ rows =
     -- Vβ = 275/3 + 0.18639 · 5.55 = 92.70113..; 5.55 Vβ + (Vβ² - (1645/18)²) / (2 · 0.05001..) = 2929.59709.. m
     ∷ gives (ep 50) 330 329 (negsuc 18) Ebi 2929598
     ∷ refuses (ep 50) 330 330 (negsuc 18) 10
+    -- the ramp, dp = 0.9 · 0.779 = 0.7011, while the brake rises: 10 · 4 - 0.7011 · 2³ / (6 · 4) = 39.7663 m
+    ∷ reaches (overrun 100 (gradientOf (pos 0)) (kmh 36) 200 400) (4 over 1) 39767
+    -- at its stop, w = (10 - 0.7011 · 2) / 0.7011 = 85978/7011: 10 · (6 + w) - 0.7011 · (4²/6 + 2 w + w²/2) = 110.84910.. m
+    ∷ reaches (overrun 100 (gradientOf (pos 0)) (kmh 36) 200 400) (128044 over 7011) 110850
+    -- at its stop before the brake acts, di = 0.309015, t = 5/18 / di = 500000/556227: 5/18 · t - di · t² / 2 = 0.12484.. m
+    ∷ reaches (overrun 100 (gradientOf (pos 35)) (kmh 1) 2000 1) (500000 over 556227) 125
     ∷ []
 
 pub worked : All first rows
-unfolding rows stepOf distance strong EBI SBI step.W step.P Vβ dp KC K0 T tf delay dr di factor speed raised
+unfolding rows stepOf distance strong EBI SBI step.W step.P Vβ dp KC K0 T tf delay dr di factor speed raised placeAt motion.dp
 worked =
-    ((refl, refl), ((refl, refl), ((refl, refl), ((refl, refl), ((refl, refl), ((refl, refl), ((refl, refl), ((refl, refl), ((refl, refl), ((refl, refl), ((refl, refl), ((refl, refl), (refl, tt)))))))))))))
+    ((refl, refl), ((refl, refl), ((refl, refl), ((refl, refl), ((refl, refl), ((refl, refl), ((refl, refl), ((refl, refl), ((refl, refl), ((refl, refl), ((refl, refl), ((refl, refl), (refl, (refl, (refl, (refl, tt))))))))))))))))
