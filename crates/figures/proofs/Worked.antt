@@ -1,4 +1,4 @@
--- Figures worked out by hand from document 01's formulas, of the definitions, in one theorem: what the starred ones leave open.
+-- Figures worked out in fractions from document 01's formulas, of the definitions, in one theorem: what the starred ones leave open.
 -- K at its thresholds, K0 where V0 is between 0 and V, a climb without the clamp, the four curves, the delay rows, the 0.05 m/s² of refusal 10,
 -- and the ramp's places in each of its three phases.
 use mathlib.Core.Path.{refl}
