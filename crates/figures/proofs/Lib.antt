@@ -1,1 +1,4 @@
+pub mod Rows
 pub mod Starred
+pub mod Worked
+pub mod Turned

@@ -1,3 +1,4 @@
 pub mod Complement
 pub mod Deciding
 pub mod Tables
+mod Coded
