@@ -2,11 +2,11 @@
 use mathlib.Core.Path.{_≡_, refl, sym, _∙_}
 use mathlib.Core.Bool.{Bool, true, false, not, cond}
 use mathlib.Core.List.{List, [], _++_}
-use mathlib.Core.Logic.{inl, inr}
+use mathlib.Core.Logic.{inl}
 use Prim.Native.Nat.{ℕ, _<_}
 use native.Mathlib.Omega.{arith}
-use borrow.Author.Tests.{lt-ltb, le-ltb, ltb-true, leb-true, leb-false, ne-eqb, not-true, not-false}
-use lib.Dec.{ltb, lit<}
+use borrow.Author.Tests.{le-ltb, ne-eqb}
+use lib.Dec.{lit<}
 use Rattle.train.specs.declared.Kmh.{Kmh}
 use Rattle.train.specs.declared.Metre.{Metre}
 use Rattle.train.specs.declared.Train.{Train}
@@ -22,12 +22,9 @@ use Rattle.train.proofs.Refusals.{Rising, rising-before, train-rising, first-af
 use Rattle.step_braking.specs.Braking.{strong}
 use Rattle.ceilings.specs.Ceilings.{limitsOf}
 use Rattle.ceilings.proofs.Agrees.{as-printed}
-use Rattle.ramp.specs.Answer as ramp
 use Rattle.ramp.specs.Answer.{timeRefusals}
 use Rattle.sheet.specs.Sheet.{lineOf}
 use Rattle.sheet.proofs.Kept.{sheet-settles}
-use Rattle.lists.proofs.Holding.{and-left, and-right}
-use Rattle.exact.specs.Fraction.{_over_, _≤q_}
 use Rattle.query_way.specs.declared.Way.{Way}
 use Rattle.query_way.specs.declared.Found.{Found}
 use Rattle.query_way.specs.declared.Found.the-variants.{Refused, Ready}
@@ -40,9 +37,10 @@ use Rattle.query_permitted.specs.Find.{Steady, Permits}
 use Rattle.query.specs.declared.Answer.{Answer}
 use Rattle.query.specs.Demand.{pastAt}
 use Rattle.query.specs.Answer.{refused, answered, release, brakeRefusals, accepted, inputs, wayTo, queryRefusals, answerOf, QueryAnswers}
-use Rattle.query.specs.Rules.{timesRule, Enough, TooWeak, brakingPast, brakingAhead, inputRules, brakeRules, queryRules}
+use Rattle.query.specs.Rules.{timesRule, TooWeak, inputRules, brakeRules, queryRules}
 use Rattle.query.specs.Begin.{Fit, Starts, answerAt, answerOn}
-use Rattle.query.proofs.Third.{fit-ahead, creeps, kept}
+use Rattle.query.proofs.Third.{fit-ahead, kept}
+use Rattle.query.proofs.Brake.{weak-past, weak-ahead, both-strong}
 
 -- the refusals go by rising numbers, so the lowest that applies is the answer (the train's `lowest` and `applies`)
 pub query-rising : (k : Coefficients) (t : Train) (tm tr : ℕ) (s : List ℕ) (signal head : ℕ) → Rising 1 (queryRefusals k t tm tr s signal head)
@@ -144,22 +142,6 @@ module _ (k : Coefficients) (t : Train) (tm tr : ℕ) (s : List ℕ) (signal hea
     weak-brake : TooWeak k t tm tr w → Judged (queryRules k t tm tr s signal head) 10
     weak-brake h = by-brake 10 (record { accepted = λ i. absurd (let j : 10 ≡ 0 = i in omega arith); refused = λ l. inl (refl, (w, (leads, h))) })
 
-    weak-past : weak ≡ true → TooWeak k t tm tr w
-    unfolding weakPast ramp.strong
-    weak-past e = let some = ltb 0 (w .overlap .0) in inl (ltb-true _ _ (and-left some _ e), leb-false _ _ (not-true _ (and-right some _ e)))
-
-    strong-past : weak ≡ false → 0 < w .overlap .0 → (5 over 100) ≤q brakingPast k t tm tr w
-    unfolding weakPast ramp.strong
-    strong-past e l = leb-true _ _ (not-false _ (rw (lt-ltb _ _ l) at e))
-
-    weak-ahead : weak ≡ false → enough ≡ false → TooWeak k t tm tr w
-    unfolding strong
-    weak-ahead a b = inr (release k t tm tr w .0, (creeps k t tm tr w f within a, leb-false _ _ b))
-
-    strong-ahead : enough ≡ true → (5 over 100) ≤q brakingAhead k t tm tr w (release k t tm tr w .0)
-    unfolding strong
-    strong-ahead b = leb-true _ _ b
-
     given : weak ≡ false → enough ≡ true → Answers (accepted k t tm tr w)
     unfolding answerOf limitsOf
     given a b =
@@ -167,11 +149,10 @@ module _ (k : Coefficients) (t : Train) (tm tr : ℕ) (s : List ℕ) (signal hea
         let h = fit-ahead k t tm tr w f within .top in
         let i = d .marked .to in
         let P = permittedOf k t (w .ahead) (release k t tm tr w) (w .distance) in
-        let e : Enough k t tm tr w = (strong-past a, (release k t tm tr w .0, (creeps k t tm tr w f within a, strong-ahead b))) in
         record {
           answer = rw (decides, a, b) refl;
           lent = given-demand _;
-          spans = by-brake 0 (record { accepted = λ i. ((w, (leads, e)), tt); refused = λ l. absurd (let j : 0 < 0 = l in omega arith) });
+          spans = by-brake 0 (record { accepted = λ i. ((w, (leads, both-strong k t tm tr w f within a b)), tt); refused = λ l. absurd (let j : 0 < 0 = l in omega arith) });
           demand = λ y. (w, (leads, d));
           ceilings = λ y. rw (le-ltb 330 P (omega arith)) (as-printed (kmh P));
         }
@@ -181,6 +162,6 @@ module _ (k : Coefficients) (t : Train) (tm tr : ℕ) (s : List ℕ) (signal hea
     on-way = go weak enough refl refl
       where
         go : (a b : Bool) → weak ≡ a → enough ≡ b → Answers (cond a (refused 10) (cond b (accepted k t tm tr w) (refused 10)))
-        go true b e g = refused-by 10 (lit< tt) (decides ∙ rw e refl) (weak-brake (weak-past e))
+        go true b e g = refused-by 10 (lit< tt) (decides ∙ rw e refl) (weak-brake (weak-past k t tm tr w f within e))
         go false true e g = given e g
-        go false false e g = refused-by 10 (lit< tt) (decides ∙ rw (e, g) refl) (weak-brake (weak-ahead e g))
+        go false false e g = refused-by 10 (lit< tt) (decides ∙ rw (e, g) refl) (weak-brake (weak-ahead k t tm tr w f within e g))
