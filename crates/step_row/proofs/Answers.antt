@@ -63,25 +63,35 @@ module _ (t : Train) (g : Gradient) (x : Curve) (v0 : Kmh) (lent : List ℕ) whe
   before-rising : Rising 1 before
   before-rising = rising-before 1 before short (row-rising t g v0 (length lent))
 
-  refused-row : (n : ℕ) → 0 < n → firstOf (rowRefusals first t g v0 (length lent)) ≡ n → Row (record { refusal = n; length = 0 }) lent
-  unfolding rowAnswer rowAfter
-  refused-row n l e =
-      let z = ne-eqb n 0 (λ i. omega arith) in
+  abbrev turned : ℕ
+  turned = firstOf (rowRefusals first t g v0 (length lent))
+
+  -- a refusal leaves the list as it was
+  refused-row : (n : ℕ) → 0 < n → turned ≡ n → (after : List ℕ) → after ≡ rowAfter first t g x v0 lent → after ≡ lent → Row (record { refusal = n; length = 0 }) after
+  unfolding rowAnswer
+  refused-row n l e after m same =
       record {
-        answer = rw (e, z);
-        memory = rw (e, z);
+        answer = rw (e, ne-eqb n 0 (λ i. omega arith));
+        memory = m;
         least = λ i h. absurd (let k : i < 0 = h in omega arith);
         reaches = λ i. absurd (let k : n ≡ 0 = i in omega arith);
-        lent = refused-demand n _ lent (refl, tt);
+        lent = rw same (refused-demand n _ lent (refl, tt));
         spans = told (row-judges t g v0 (length lent)) (sym e) .1;
       }
 
   pub row-refused : (n : ℕ) → 0 < n → firstOf before ≡ n → Row (record { refusal = n; length = 0 }) lent
-  row-refused n l e = refused-row n l (first-before before short (λ i. omega arith) ∙ e)
+  unfolding rowAfter
+  row-refused n l e =
+      let r : turned ≡ n = first-before before short (λ i. omega arith) ∙ e in
+      let z = ne-eqb n 0 (λ i. omega arith) in
+      refused-row n l r lent (rw (r, z)) refl
 
   module _ (z : firstOf before ≡ 0) where
     pub row-short : length lent < speeds t v0 → Row (record { refusal = 11; length = 0 }) lent
-    row-short l = refused-row 11 (lit< tt) (first-after 0 before short before-rising z ∙ rw (lt-ltb (length lent) (speeds t v0) l))
+    unfolding rowAfter
+    row-short l =
+        let r : turned ≡ 11 = first-after 0 before short before-rising z ∙ rw (lt-ltb (length lent) (speeds t v0) l) in
+        refused-row 11 (lit< tt) r lent (rw r) refl
 
     module _ (c : Course) (is : IsCourse first t g c) (enough : Enough c (v0 .0) (v0 .0)) where
       -- strong at V0, so at every speed above
@@ -94,14 +104,14 @@ module _ (t : Train) (g : Gradient) (x : Curve) (v0 : Kmh) (lent : List ℕ) whe
       abbrev n : ℕ
       n = speeds t v0
 
-      row-is : (i : ℕ) → placeOf x c (v0 .0 + i) (v0 .0) ≡ exactly i
-      row-is i = distance-is first t g c is (kmh (v0 .0 + i)) v0 (le-add-right (v0 .0) i) (enough-on i) x
+      pub row-is : (m : ℕ) → upTo (λ i. placeOf x c (v0 .0 + i) (v0 .0)) m ≡ upTo exactly m
+      row-is m = same-places _ exactly m (λ i h. distance-is first t g c is (kmh (v0 .0 + i)) v0 (le-add-right (v0 .0) i) (enough-on i) x)
 
       pub row-given : (after : List ℕ) → n ≤ length lent → after ≡ upTo (λ i. placeOf x c (v0 .0 + i) (v0 .0)) n ++ drop n lent → Row (record { refusal = 0; length = n }) after
       unfolding rowAnswer rowAfter
       row-given after l e =
-          let r : firstOf (rowRefusals first t g v0 (length lent)) ≡ 0 = first-after 0 before short before-rising z ∙ rw (le-ltb (length lent) n l) in
-          let p : after ≡ upTo exactly n ++ drop n lent = e ∙ ap (λ q. q ++ drop n lent) (same-places _ exactly n (λ i h. row-is i)) in
+          let r : turned ≡ 0 = first-after 0 before short before-rising z ∙ rw (le-ltb (length lent) n l) in
+          let p : after ≡ upTo exactly n ++ drop n lent = e ∙ ap (λ q. q ++ drop n lent) (row-is n) in
           let s = told (row-judges t g v0 (length lent)) (sym r) .1 in
           let q : length after ≡ n + (length lent - n) = rw (p, length-append (upTo exactly n) (drop n lent), places-length exactly n, length-drop n lent) in
           record {
