@@ -17,11 +17,11 @@ raised-le a n l =
     )
 
 pub raised-least : (a : Fraction) → 0 < a .over → Least a (raised a)
-raised-least a l = record { enough = raised-le a (raised a) l .0 (le-refl (raised a)); least = λ n. raised-le a n l .1 }
+raised-least a l = record { number = l; enough = raised-le a (raised a) l .0 (le-refl (raised a)); least = λ n. raised-le a n l .1 }
 
 -- and it alone is
-pub least-raised : (a : Fraction) (q : ℕ) → 0 < a .over → Least a q → q ≡ raised a
-least-raised a q l h = let r = raised-least a l in le-antisymm (h .least (raised a) (r .enough)) (r .least q (h .enough))
+pub least-raised : (a : Fraction) (q : ℕ) → Least a q → q ≡ raised a
+least-raised a q h = let r = raised-least a (h .number) in le-antisymm (h .least (raised a) (r .enough)) (r .least q (h .enough))
 
 pub raised-mono : (a b : Fraction) → 0 < a .over → 0 < b .over → a ≤q b → raised a ≤ raised b
 raised-mono a b l m h = raised-le a (raised b) l .1 (≤q-trans a b (whole (raised b)) m h (raised-least b m .enough))

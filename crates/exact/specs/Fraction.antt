@@ -61,8 +61,9 @@ leq a b = leb (cross a b) (cross b a)
 abbrev pub maxq : Fraction → Fraction → Fraction
 maxq a b = cond (leq a b) b a
 
--- q is the least whole number not below a
+-- q is the least whole number not below a, which is a number
 pub record Least (a : Fraction) (q : ℕ) : Type 0 where
+  pub number : 0 < a .over
   pub enough : a ≤q whole q
   pub least : (n : ℕ) → a ≤q whole n → q ≤ n
 

@@ -1,22 +1,29 @@
 -- What the code finds out, refusal by refusal, makes the answers of the definitions.
-use mathlib.Core.Path.{_≡_}
+use mathlib.Core.Path.{_≡_, refl, sym}
+use mathlib.Core.List.{List, [], _++_}
 use Prim.Native.Nat.{ℕ, _≤_, _<_}
 use native.Mathlib.Omega.{arith}
 use borrow.Author.Tests.{ltb-false, ne-eqb}
 use lib.ListN.{length}
+use Rattle.exact.specs.Fraction.{_+q_}
 use Rattle.train.specs.declared.Kmh.{Kmh}
 use Rattle.train.specs.declared.Train.{Train}
 use Rattle.train.specs.declared.Gradient.{Gradient}
 use Rattle.train.specs.Coefficients.{first}
 use Rattle.train.specs.Gradient.{Moderate}
-use Rattle.train.specs.Refusal.{firstOf}
+use Rattle.train.specs.Refusal.{Refusal, firstOf}
+use Rattle.train.specs.Judged.{Rule}
 use Rattle.train.proofs.Refusals.{Rising, rising-before, none-holds}
+use Rattle.train.proofs.Judging.{Judges, _then_, _and_, no-more, at-least, weight-settles, length-settles, top-settles, gradient-settles, brake-settles, told}
+use Rattle.train.proofs.Lending.{refused-demand, given-demand}
+use Rattle.train_slope.specs.Slope.{di}
+use Rattle.step_braking.specs.Braking.{dp, strong}
 use Rattle.step_curve.specs.declared.Curve.the-variants.{Ebi, Sbi, W, P}
 use Rattle.step_braking.specs.declared.Course.{Course}
 use Rattle.step_braking.specs.Plan.{Near, Enough}
 use Rattle.step_braking.specs.Agreement.{IsCourse}
 use Rattle.step_curve.proofs.Exact.{distance-is, distance-least}
-use Rattle.step.specs.Answer.{inputs, refused, weak, stepRefusals, stepOf, StepAnswers}
+use Rattle.step.specs.Answer.{inputs, inputRules, refused, weak, stepRefusals, stepRules, stepOf, StepAnswers}
 use Rattle.step.specs.Begin.{placesOf}
 
 -- what the inputs do not turn away
@@ -45,15 +52,35 @@ module _ (t : Train) (g : Gradient) (v v0 : Kmh) where
         speeds = record { high = ltb-false _ _ (m .0); ahead = ltb-false _ _ (m .1 .1 .0) };
       }
 
+-- the conditions decide by the rules in words of their own: those of the inputs, then the others
+pub inputs-then : (t : Train) (g : Gradient) (v v0 : Kmh) {rs : List Rule} {cs : List Refusal} → Judges rs cs → Judges (inputRules t g v v0 ++ rs) (inputs t g v v0 ++ cs)
+inputs-then t g v v0 j =
+    weight-settles (t .weight) then length-settles t then (top-settles t and at-least 3 tt (v .0) 330 and at-least 3 tt (v0 .0) 330) then at-least 4 tt (v0 .0) (v .0) then gradient-settles g then j
+
+pub step-judges : (t : Train) (g : Gradient) (v v0 : Kmh) → Judges (stepRules first t g v v0) (stepRefusals first t g v v0)
+unfolding strong
+step-judges t g v v0 = inputs-then t g v v0 (brake-settles (dp first t g v v0 +q di first g) then no-more)
+
 -- a single distance's answer, and that it is exact where it is given
 module _ (t : Train) (g : Gradient) (v v0 : Kmh) where
   pub step-refused : (n : ℕ) → 0 < n → firstOf (stepRefusals first t g v v0) ≡ n → StepAnswers first t g v v0 (refused n)
   unfolding stepOf
-  step-refused n l e = record { answer = rw (e, ne-eqb n 0 (λ i. omega arith)); least = λ z. absurd (let k : n ≡ 0 = z in omega arith) }
+  step-refused n l e =
+      record {
+        answer = rw (e, ne-eqb n 0 (λ i. omega arith));
+        least = λ z. absurd (let k : n ≡ 0 = z in omega arith);
+        lent = refused-demand n _ [] (refl, (refl, (refl, (refl, tt))));
+        spans = told (step-judges t g v v0) (sym e) .1;
+      }
 
   pub step-given : (c : Course) → firstOf (stepRefusals first t g v v0) ≡ 0 → v0 .0 ≤ v .0 → IsCourse first t g c → Enough c (v .0) (v0 .0) → StepAnswers first t g v v0 (placesOf c v v0)
   unfolding stepOf
   step-given c z ahead is enough =
       let at = distance-is first t g c is v v0 ahead enough in
       let least = distance-least first t g c is v v0 ahead enough in
-      rw (at Ebi, at Sbi, at W, at P) (record { answer = rw z; least = λ i. record { ebi = least Ebi; sbi = least Sbi; w = least W; p = least P } })
+      rw (at Ebi, at Sbi, at W, at P) (record {
+        answer = rw z;
+        least = λ i. record { ebi = least Ebi; sbi = least Sbi; w = least W; p = least P };
+        lent = given-demand _;
+        spans = told (step-judges t g v v0) (sym z) .1;
+      })

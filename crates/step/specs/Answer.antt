@@ -2,16 +2,19 @@
 use mathlib.Core.Path.{_≡_}
 use mathlib.Core.Bool.{not, cond}
 use mathlib.Core.List.{List, [], _∷_, _++_}
-use Prim.Native.Nat.{ℕ}
+use Prim.Native.Nat.{ℕ, _≤_}
 use lib.Dec.{ltb, eqb}
-use Rattle.exact.specs.Fraction.{whole, _*q_, Least}
+use Rattle.exact.specs.Fraction.{whole, _+q_, _*q_, Least}
 use Rattle.train.specs.declared.Kmh.{Kmh}
 use Rattle.train.specs.declared.Train.{Train}
 use Rattle.train.specs.declared.Gradient.{Gradient}
 use Rattle.train.specs.declared.Coefficients.{Coefficients}
 use Rattle.train.specs.Refusal.{Refusal, _gives_, firstOf, trainRefusals, gradientRefusals}
+use Rattle.train.specs.Judged.{Rule, _keeps_, Judged, weightRule, lengthRule, TopSpeed, gradientRule, brakeRule}
+use Rattle.train.specs.Lent.{NoneLent}
+use Rattle.train_slope.specs.Slope.{di}
 use Rattle.step_curve.specs.declared.Curve.the-variants.{Ebi, Sbi, W, P}
-use Rattle.step_braking.specs.Braking.{strong}
+use Rattle.step_braking.specs.Braking.{dp, strong}
 use Rattle.step_curve.specs.Step.{formula, distance}
 use Rattle.step.specs.declared.Distances.{Distances}
 
@@ -22,6 +25,16 @@ speedRefusals v v0 = ltb 330 (v .0) gives 3 ∷ ltb 330 (v0 .0) gives 3 ∷ ltb 
 -- what the inputs alone turn away
 abbrev pub inputs : Train → Gradient → Kmh → Kmh → List Refusal
 inputs t g v v0 = trainRefusals t ++ (speedRefusals v v0 ++ gradientRefusals g)
+
+-- the same in words of its own
+abbrev pub inputRules : Train → Gradient → Kmh → Kmh → List Rule
+inputRules t g v v0 =
+    weightRule (t .weight)
+    ∷ lengthRule t
+    ∷ 3 keeps (TopSpeed t × ((v .0 ≤ 330) × (v0 .0 ≤ 330)))
+    ∷ 4 keeps (v0 .0 ≤ v .0)
+    ∷ gradientRule g
+    ∷ []
 
 -- a refusal, with zeros
 abbrev pub refused : ℕ → Distances
@@ -35,6 +48,10 @@ module _ (k : Coefficients) (t : Train) (g : Gradient) where
   -- a single distance
   abbrev pub stepRefusals : Kmh → Kmh → List Refusal
   stepRefusals v v0 = inputs t g v v0 ++ weak v v0
+
+  -- in words of its own; 10 goes by dp + di itself
+  abbrev pub stepRules : Kmh → Kmh → List Rule
+  stepRules v v0 = inputRules t g v v0 ++ (brakeRule (dp k t g v v0 +q di k g) ∷ [])
 
   abbrev pub distances : Kmh → Kmh → Distances
   distances v v0 =
@@ -56,7 +73,9 @@ module _ (k : Coefficients) (t : Train) (g : Gradient) where
     pub w : Least (whole 1000 *q formula k t g v v0 W) (d .w .0)
     pub p : Least (whole 1000 *q formula k t g v v0 P) (d .p .0)
 
-  -- what a single distance promises
+  -- what a single distance promises: its answer, the second demand, the first, and what is turned away
   pub record StepAnswers (v v0 : Kmh) (d : Distances) : Type 0 where
     pub answer : d ≡ stepOf v v0
     pub least : d .refusal ≡ 0 → Exact v v0 d
+    pub lent : NoneLent (d .refusal) (d .ebi .0 ∷ d .sbi .0 ∷ d .w .0 ∷ d .p .0 ∷ [])
+    pub spans : Judged (stepRules v v0) (d .refusal)

@@ -89,7 +89,8 @@ module _ (N v q l : ℕ) (p : 0 < v) (h : N ≤ 4294967295 * v) (e : l + q * v �
 
   pub least-exact : l ≤ 0 → q ≡ raised (N over v)
   least-exact i =
-      least-raised (N over v) q p (record {
+      least-raised (N over v) q (record {
+        number = p;
         enough = omega arith;
         least = λ k j. le-of-mul-le-mul-right (let t : q * v ≤ k * v = omega arith in t) p;
       })
@@ -97,7 +98,8 @@ module _ (N v q l : ℕ) (p : 0 < v) (h : N ≤ 4294967295 * v) (e : l + q * v �
   pub least-more : 0 < l → l ≤ v → q + 1 ≡ raised (N over v)
   least-more i j =
       let m : (q + 1) * v ≡ q * v + v = ring (q ∷ v ∷ []) ((x0 ⊕ num 1) ⊗ x1) (x0 ⊗ x1 ⊕ x1) refl in
-      least-raised (N over v) (q + 1) p (record {
+      least-raised (N over v) (q + 1) (record {
+        number = p;
         enough = omega arith;
         least = λ k n. (let u : q < k = lt-of-mul-lt-mul-right v (let t : q * v < k * v = omega arith in t) in omega arith);
       })

@@ -72,7 +72,7 @@ returns c =
     let a = g .before .args in
     let e = c .before .turned-away .ensures in
     rw (← gradient-is g)
-    (c .if1 .taken, first-before (inputs (a .train) (g .gradient-of .result) (a .v) (a .v0)) (weak first (a .train) (g .gradient-of .result) (a .at) (a .v0)) (λ i. omega (arith, c .if1 .taken, e)) ∙ sym e)
+    (omega (arith, c .if1 .taken), first-before (inputs (a .train) (g .gradient-of .result) (a .v) (a .v0)) (weak first (a .train) (g .gradient-of .result) (a .at) (a .v0)) (λ i. omega (arith, c .if1 .taken, e)) ∙ sym e)
 
 first-values-requires : tie.Need-first-values-requires
 first-values-requires c κs = search needs

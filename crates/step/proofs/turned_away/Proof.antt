@@ -28,7 +28,7 @@ returns c =
     ∙ sym (first-before (trainRefusals (a .train)) (speedRefusals (a .v) (a .v0) ++ gradientRefusals (a .g)) (λ z. omega (arith, c .if1 .taken, c .before .of-train .ensures .0)))
 
 returns-2 : tie.Need-returns-2
-returns-2 c = after (c .before) 3 (simp (lt-ltb _ _ (c .if2 .taken)))
+returns-2 c = after (c .before) 3 (simp (lt-ltb 330 (c .before .before .before .args .v .0) (omega (arith, c .if2 .taken))))
 
 returns-3 : tie.Need-returns-3
 returns-3 c = let d = c .before in after (d .before) 3 (simp (le-ltb _ _ (d .if2 .left), lt-ltb _ _ (c .if3 .taken)))
