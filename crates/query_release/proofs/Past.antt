@@ -64,11 +64,11 @@ module _ (k : Coefficients) (o : Overrun) where
     module _ (top : Kmh) where
       at-most : releaseOf k o overlap top ≤ min 100 (top .0)
       unfolding releaseOf
-      at-most = go (eqb (overlap .0) 0)
+      at-most = go (eqb (overlap .0) 0) _
         where
-          go : (b : Bool) → cond b 0 (climb (stopsWithin k o overlap) 0 (min 100 (top .0))) ≤ min 100 (top .0)
-          go true = omega arith
-          go false = omega (arith, highest (stopsWithin k o overlap) 0 (min 100 (top .0)) .to)
+          go : (b : Bool) (n : ℕ) → cond b 0 (climb (stopsWithin k o overlap) 0 n) ≤ n
+          go true n = omega arith
+          go false n = omega (arith, highest (stopsWithin k o overlap) 0 n .to)
 
       pub found-weak : weakPast k o overlap ≡ true → Releases k o overlap top Weak
       found-weak e = record { says = rw e refl; low = omega arith; slow = omega arith }
