@@ -32,7 +32,7 @@ timeRefusals tm tr = ltb 2000 tm gives 6 ∷ ltb tr 1 gives 6 ∷ ltb 3000 tr gi
 abbrev pub inputs : Overrun → List Refusal
 inputs o = weightRefusals (o .weight) ++ (speedRefusals (o .v) ++ (gradientRefusals (o .gradient) ++ timeRefusals (o .tm) (o .tr)))
 
--- the same in words of their own
+-- what is kept, in words of its own: of the times, and of all that the call looks at
 abbrev pub timesRule : ℕ → ℕ → Rule
 timesRule tm tr = 6 keeps ((tm ≤ 2000) × ((1 ≤ tr) × (tr ≤ 3000)))
 
