@@ -8,8 +8,7 @@ ghost use Rattle.step_curve.specs.declared.Curve.the-variants.{Ebi, Sbi, W, P};
 ghost use Rattle.step_row.specs.Answer.{RowAnswers};
 ghost use Rattle.step.specs.Answer.{StepAnswers};
 ghost use Rattle.ramp.specs.Answer.{overrun, RampAnswers};
-ghost use Rattle.ceilings.specs.Ceilings.{limitsOf};
-ghost use Rattle.ceilings.specs.Paper.{AsPrinted};
+ghost use Rattle.ceilings.specs.Answer.{CeilingAnswers};
 ghost use Rattle.sheet.specs.Fields.{fourLists};
 ghost use Rattle.sheet_lookup.specs.Answer.{stretchOf, signalOf};
 ghost use Rattle.sheet_mark.specs.Answer.{moveOf, Again};
@@ -92,7 +91,7 @@ pub extern "C" fn approach_ramp(braked_weight: u32, gradient: i32, v: u32, tm: u
 
 #[no_mangle]
 pub extern "C" fn approach_ceilings(permitted: u32) -> Limits
-    ensures { λ r. ⌜ (r ≡ limitsOf (kmh permitted)) × (r .refusal ≡ 0 → AsPrinted (kmh permitted) r) ⌝ }
+    ensures { λ r. ⌜ CeilingAnswers (kmh permitted) r ⌝ }
 {
     ceilings::ceilings(Kmh(permitted))
 }

@@ -1,1 +1,2 @@
 pub mod Agrees
+mod Answers

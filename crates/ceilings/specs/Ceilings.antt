@@ -28,9 +28,13 @@ ceilingOf b v = record { 0 = 120 * v .0 + b .least + b .growth * grownTo (b .end
 abbrev pub given : Kmh → Limits
 given v = record { refusal = 0; w = ceilingOf w v; sbi = ceilingOf sbi v; ebi = ceilingOf ebi v }
 
--- speeds of 0 to 330; else refusal 3, with zeros
+-- a refusal, with zeros
+abbrev pub refused : Limits
+refused = record { refusal = 3; w = record { 0 = 0 }; sbi = record { 0 = 0 }; ebi = record { 0 = 0 } }
+
+-- speeds of 0 to 330
 unfoldable pub limitsOf : Kmh → Limits
-limitsOf v = cond (ltb 330 (v .0)) (record { refusal = 3; w = record { 0 = 0 }; sbi = record { 0 = 0 }; ebi = record { 0 = 0 } }) (given v)
+limitsOf v = cond (ltb 330 (v .0)) refused (given v)
 
 -- what keeps a ceiling within 32 bits
 pub record Narrow (b : Band) : Type 0 where

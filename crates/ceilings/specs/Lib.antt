@@ -1,2 +1,3 @@
 pub mod Ceilings
 pub mod Paper
+pub mod Answer

@@ -2,8 +2,8 @@
 // Takes: the units of `train`. Gives: the operation `ceilings`, also to `query`.
 ghost use mathlib.Core.Path.{_≡_};
 ghost use Prim.Native.Nat.{_≤_};
-ghost use Rattle.ceilings.specs.Ceilings.{Narrow, grownTo, ceilingOf, limitsOf};
-ghost use Rattle.ceilings.specs.Paper.{AsPrinted};
+ghost use Rattle.ceilings.specs.Ceilings.{Narrow, grownTo, ceilingOf};
+ghost use Rattle.ceilings.specs.Answer.{CeilingAnswers};
 use train::Kmh;
 
 // A speed in 120ths of a km/h.
@@ -78,7 +78,7 @@ fn ceiling_of(v: Kmh, b: Band) -> Ceiling
 
 // The three ceilings of a permitted speed of 0 to 330 km/h.
 pub fn ceilings(permitted: Kmh) -> Limits
-    ensures { λ r. ⌜ (r ≡ limitsOf permitted) × (r .refusal ≡ 0 → AsPrinted permitted r) ⌝ }
+    ensures { λ r. ⌜ CeilingAnswers permitted r ⌝ }
 {
     if permitted.0 > 330 {
         return Limits {

@@ -1,12 +1,12 @@
 -- What the code finds out, refusal by refusal, makes the answer of the definition; an accepted one keeps the third demand.
-use mathlib.Core.Path.{_≡_, refl, sym, _∙_}
+use mathlib.Core.Path.{_≡_, refl, sym, ap, _∙_}
 use mathlib.Core.Bool.{Bool, true, false, not, cond}
 use mathlib.Core.List.{List, [], _++_}
 use mathlib.Core.Logic.{inl}
 use Prim.Native.Nat.{ℕ, _<_}
 use native.Mathlib.Omega.{arith}
 use borrow.Author.Tests.{le-ltb, ne-eqb}
-use lib.Dec.{lit<}
+use lib.Dec.{eqb, lit<}
 use Rattle.train.specs.declared.Kmh.{Kmh}
 use Rattle.train.specs.declared.Metre.{Metre}
 use Rattle.train.specs.declared.Train.{Train}
@@ -16,13 +16,14 @@ use Rattle.train.specs.Units.{kmh}
 use Rattle.train.specs.Coefficients.{Within}
 use Rattle.train.specs.Refusal.{firstOf, trainRefusals}
 use Rattle.train.specs.Judged.{Judged}
-use Rattle.train.proofs.Judging.{Settles, Judges, _then_, _and_, no-more, told, before-more, behind-kept, at-least, below, weight-settles, length-settles, top-settles}
+use Rattle.train.proofs.Judging.{Judges, _then_, no-more, told, before-more, behind-kept, at-least, below, weight-settles, length-settles, top-settles}
 use Rattle.train.proofs.Lending.{refused-demand, given-demand}
 use Rattle.train.proofs.Refusals.{Rising, rising-before, train-rising, first-after, first-before}
 use Rattle.step_braking.specs.Braking.{strong}
 use Rattle.ceilings.specs.Ceilings.{limitsOf}
 use Rattle.ceilings.proofs.Agrees.{as-printed}
 use Rattle.ramp.specs.Answer.{timeRefusals}
+use Rattle.ramp.proofs.Judging.{times-settles}
 use Rattle.sheet.specs.Sheet.{lineOf}
 use Rattle.sheet.proofs.Kept.{sheet-settles}
 use Rattle.query_way.specs.declared.Way.{Way}
@@ -30,14 +31,16 @@ use Rattle.query_way.specs.declared.Found.{Found}
 use Rattle.query_way.specs.declared.Found.the-variants.{Refused, Ready}
 use Rattle.query_way.specs.Way.{wayRefusals, Leads}
 use Rattle.query_way.specs.Find.{Finds}
-use Rattle.query_permitted.specs.declared.Permitted.the-variants.{Weak, Release, Curve}
-use Rattle.query_release.specs.Release.{releaseOf, weakPast}
-use Rattle.query_permitted.specs.Permitted.{onCurve, onRelease, permittedOf, markOf}
-use Rattle.query_permitted.specs.Find.{Steady, Permits}
+use Rattle.query_release.specs.declared.Release.{Release}
+use Rattle.query_release.specs.Release.{weakPast, saysOf, Releases}
+use Rattle.query_permitted.specs.declared.Permitted.{Permitted}
+use Rattle.query_permitted.specs.Permitted as permitted
+use Rattle.query_permitted.specs.Permitted.{permittedOf, markOf, Permits}
+use Rattle.query_permitted.specs.Find.{Steady}
 use Rattle.query.specs.declared.Answer.{Answer}
 use Rattle.query.specs.Demand.{pastAt}
 use Rattle.query.specs.Answer.{refused, answered, release, brakeRefusals, accepted, inputs, wayTo, queryRefusals, answerOf, QueryAnswers}
-use Rattle.query.specs.Rules.{timesRule, TooWeak, inputRules, brakeRules, queryRules}
+use Rattle.query.specs.Rules.{TooWeak, inputRules, brakeRules, queryRules}
 use Rattle.query.specs.Begin.{Fit, Starts, answerAt, answerOn}
 use Rattle.query.proofs.Third.{fit-ahead, kept}
 use Rattle.query.proofs.Brake.{weak-past, weak-ahead, both-strong}
@@ -49,31 +52,27 @@ query-rising k t tm tr s signal head = (tt, (tt, (tt, (tt, (tt, (tt, (tt, (tt, (
 pub times-rising : (tm tr : ℕ) → Rising 1 (timeRefusals tm tr)
 times-rising tm tr = (tt, (tt, (tt, tt)))
 
-times-settles : (tm tr : ℕ) → Settles (timesRule tm tr) (timeRefusals tm tr)
-times-settles tm tr = at-least 6 tt tm 2000 and at-least 6 tt 1 tr and at-least 6 tt tr 3000
+-- what is made of one of two is one of what is made of both
+of-either : {A B : Type 0} (f : A → B) (b : Bool) (x y s : A) → s ≡ cond b x y → f s ≡ cond b (f x) (f y)
+of-either f true x y s e = ap f e
+of-either f false x y s e = ap f e
 
--- the steps of the code
+-- the steps of the code: the paper's numbers for each case make the answer
 module _ (k : Coefficients) (t : Train) (g : Gradient) (d : Metre) (v0 : Kmh) where
-  pub too-weak : Permits k t g v0 d Weak → refused 10 ≡ answerAt k t g d v0
+  abbrev permitting : ℕ × ℕ × ℕ → Answer
+  permitting s = cond (eqb (s .0) 0) (answered v0 (kmh (s .1)) (s .2)) (refused (s .0))
+
+  pub as-permitted : (r : Permitted) → Permits k t g v0 d r → permitting (permitted.saysOf v0 r) ≡ answerAt k t g d v0
   unfolding answerAt
-  too-weak e = rw e refl
-
-  pub by-release : Permits k t g v0 d Release → answered v0 v0 onRelease ≡ answerAt k t g d v0
-  unfolding answerAt permittedOf markOf
-  by-release (e, f) = rw (e, f) refl
-
-  pub by-curve : (v : Kmh) → Permits k t g v0 d (Curve v) → answered v0 v onCurve ≡ answerAt k t g d v0
-  unfolding answerAt permittedOf markOf
-  by-curve v (e, f, h) = rw (e, f, ← h) refl
+  as-permitted r e = of-either permitting (strong k t g v0 v0) (0, permittedOf k t g v0 d, markOf k t g v0 d) (10, 0, 0) _ e
 
 module _ (k : Coefficients) (t : Train) (tm tr : ℕ) (w : Way) where
-  pub too-weak-past : weakPast k (pastAt t tm tr w 1) (w .overlap) ≡ true → refused 10 ≡ answerOn k t tm tr w
-  unfolding answerOn
-  too-weak-past e = rw e refl
+  abbrev releasing : ℕ × ℕ → Answer
+  releasing s = cond (eqb (s .0) 0) (answerAt k t (w .ahead) (w .distance) (kmh (s .1))) (refused (s .0))
 
-  pub with-release : (v : Kmh) → (weakPast k (pastAt t tm tr w 1) (w .overlap) ≡ false) × (v .0 ≡ releaseOf k (pastAt t tm tr w 1) (w .overlap) (t .top)) → answerAt k t (w .ahead) (w .distance) v ≡ answerOn k t tm tr w
+  pub as-released : (r : Release) → Releases k (pastAt t tm tr w 1) (w .overlap) (t .top) r → releasing (saysOf r) ≡ answerOn k t tm tr w
   unfolding answerOn
-  with-release v (e, h) = rw (e, ← h) refl
+  as-released r h = of-either releasing (weakPast k (pastAt t tm tr w 1) (w .overlap)) (10, 0) (0, release k t tm tr w .0) _ (h .says)
 
 module _ (t : Train) (tm tr : ℕ) (s : List ℕ) (signal head : ℕ) where
   pub by-train : (n : ℕ) → 0 < n → n ≡ firstOf (trainRefusals t) → firstOf (inputs t tm tr s signal head) ≡ n

@@ -11,7 +11,6 @@ use Rattle.ramp_motion.specs.Motion.{placeAt}
 use Rattle.ramp.specs.Answer.{overrun, leeway}
 use Rattle.step_curve.specs.Step.{P}
 use Rattle.query_way.specs.declared.Way.{Way}
-use Rattle.query_permitted.specs.Permitted.{onCurve, onRelease}
 
 -- the motion past the signal at a whole speed: the ramp's, with the train, TM and TR, the gradient of the overlap and place 0 at the signal
 abbrev pub pastAt : Train → ℕ → ℕ → Way → ℕ → Overrun
@@ -54,17 +53,17 @@ module _ (k : Coefficients) (t : Train) (tm tr : ℕ) (w : Way) where
       pub most : release ≤ 100
       pub top : release ≤ t .top .0
 
-    -- marked "release" exactly when the release speed's own P is over the distance; the permitted speed is then the release speed.
-    -- Otherwise marked "curve": of the speeds from the release speed to the top speed, the permitted speed is the highest up to
+    -- marked "release", 2, exactly when the release speed's own P is over the distance; the permitted speed is then the release speed.
+    -- Otherwise marked "curve", 1: of the speeds from the release speed to the top speed, the permitted speed is the highest up to
     -- which each has its P within the distance.
     pub record Marked (permitted mark : ℕ) : Type 0 where
-      pub either : (mark ≡ onCurve) ⊎ (mark ≡ onRelease)
-      pub exactly : (mark ≡ onRelease) ↔ (toSignal <q exactP release)
-      pub held : mark ≡ onRelease → permitted ≡ release
+      pub either : (mark ≡ 1) ⊎ (mark ≡ 2)
+      pub exactly : (mark ≡ 2) ↔ (toSignal <q exactP release)
+      pub held : mark ≡ 2 → permitted ≡ release
       pub from : release ≤ permitted
       pub to : permitted ≤ t .top .0
-      pub each : mark ≡ onCurve → (v : ℕ) → release ≤ v → v ≤ permitted → exactP v ≤q toSignal
-      pub next : mark ≡ onCurve → permitted < t .top .0 → toSignal <q exactP (permitted + 1)
+      pub each : mark ≡ 1 → (v : ℕ) → release ≤ v → v ≤ permitted → exactP v ≤q toSignal
+      pub next : mark ≡ 1 → permitted < t .top .0 → toSignal <q exactP (permitted + 1)
 
     pub record Demand (permitted mark : ℕ) : Type 0 where
       pub numbers : Numbers

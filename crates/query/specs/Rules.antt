@@ -1,22 +1,20 @@
 -- Document 01, "What is turned away", of the query, in words of its own.
 use mathlib.Core.List.{List, [], _∷_, _++_}
 use mathlib.Core.Logic.{_⊎_}
-use Prim.Native.Nat.{ℕ, _≤_, _<_}
+use Prim.Native.Nat.{ℕ, _<_}
 use Rattle.exact.specs.Fraction.{Fraction, _over_, _+q_, _≤q_, _<q_}
 use Rattle.train.specs.declared.Train.{Train}
 use Rattle.train.specs.declared.Coefficients.{Coefficients}
 use Rattle.train.specs.Units.{kmh}
-use Rattle.train.specs.Judged.{Rule, _keeps_, trainRules}
+use Rattle.train.specs.Judged.{Rule, trainRules}
 use Rattle.train_slope.specs.Slope.{di}
 use Rattle.ramp_motion.specs.Motion as ramp
+use Rattle.ramp.specs.Answer.{timesRule}
 use Rattle.step_braking.specs.Braking.{dp}
 use Rattle.sheet.specs.Sheet.{lineOf}
 use Rattle.query_way.specs.declared.Way.{Way}
 use Rattle.query_way.specs.Way.{wayRules, Leads}
 use Rattle.query.specs.Demand.{pastAt, Creeps}
-
-abbrev pub timesRule : ℕ → ℕ → Rule
-timesRule tm tr = 6 keeps ((tm ≤ 2000) × ((1 ≤ tr) × (tr ≤ 3000)))
 
 -- something is so of the way from the head to the signal
 abbrev pub On : List ℕ → ℕ → ℕ → (Way → Type 0) → Type 0

@@ -1,22 +1,14 @@
--- What the code asks for, tests and finds; nobody has to believe this.
+-- What the code asks for and tests; nobody has to believe this.
 use mathlib.Core.Path.{_≡_}
-use mathlib.Core.Bool.{Bool, true, false}
-use Prim.Native.Nat.{ℕ, _*_, _-_, _^_, _≤_}
+use mathlib.Core.Bool.{Bool}
+use Prim.Native.Nat.{ℕ, _*_, _^_, _≤_}
 use lib.Dec.{leb}
 use Rattle.train.specs.declared.Kmh.{Kmh}
-use Rattle.train.specs.declared.Metre.{Metre}
-use Rattle.train.specs.declared.Train.{Train}
-use Rattle.train.specs.declared.Gradient.{Gradient}
 use Rattle.train.specs.declared.Coefficients.{Coefficients}
 use Rattle.step_braking.specs.declared.Course.{Course}
-use Rattle.step_braking.specs.Braking.{strong}
 use Rattle.step_braking.specs.Plan.{Small, Enough}
 use Rattle.step_curve.specs.declared.Curve.the-variants.{P}
 use Rattle.step_curve.specs.Plan.{aOf, sumAt}
-use Rattle.query_climb.specs.Climb.{climb}
-use Rattle.query_permitted.specs.declared.Permitted.{Permitted}
-use Rattle.query_permitted.specs.declared.Permitted.the-variants.{Weak, Release, Curve}
-use Rattle.query_permitted.specs.Permitted.{fits}
 
 -- nC is 0, as in the first values: the brake is no weaker at a higher speed
 pub record Steady (k : Coefficients) : Type 0 where
@@ -34,9 +26,3 @@ pub record Climbing (c : Course) (v0 top : Kmh) : Type 0 where
   pub enough : (v : ℕ) → v0 .0 ≤ v → Enough c v (v0 .0)
   pub ahead : v0 .0 ≤ top .0
   pub high : top .0 ≤ 330
-
-module _ (k : Coefficients) (t : Train) (g : Gradient) (v0 : Kmh) (d : Metre) where
-  abbrev pub Permits : Permitted → Type 0
-  Permits Weak = strong k t g v0 v0 ≡ false
-  Permits Release = (strong k t g v0 v0 ≡ true) × (fits k t g v0 d (v0 .0) ≡ false)
-  Permits (Curve v) = (strong k t g v0 v0 ≡ true) × (fits k t g v0 d (v0 .0) ≡ true) × (v .0 ≡ climb (fits k t g v0 d) (v0 .0) (t .top .0 - v0 .0))

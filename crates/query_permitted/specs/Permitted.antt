@@ -1,4 +1,5 @@
 -- Document 01, "Approach": the permitted speed, at which a train may come up to the signal, and the mark, which says what holds it.
+use mathlib.Core.Path.{_≡_}
 use mathlib.Core.Bool.{Bool, cond}
 use Prim.Native.Nat.{ℕ, _*_, _-_}
 use lib.Dec.{leb}
@@ -8,9 +9,12 @@ use Rattle.train.specs.declared.Train.{Train}
 use Rattle.train.specs.declared.Gradient.{Gradient}
 use Rattle.train.specs.declared.Coefficients.{Coefficients}
 use Rattle.train.specs.Units.{kmh}
+use Rattle.step_braking.specs.Braking.{strong}
 use Rattle.step_curve.specs.declared.Curve.the-variants.{P}
 use Rattle.step_curve.specs.Step.{distance}
 use Rattle.query_climb.specs.Climb.{climb}
+use Rattle.query_permitted.specs.declared.Permitted.{Permitted}
+use Rattle.query_permitted.specs.declared.Permitted.the-variants.{Weak, Release, Curve}
 
 -- the mark's numbers: "curve", the P distance to the release speed; "release", the release speed itself
 abbrev pub onCurve : ℕ
@@ -18,6 +22,12 @@ onCurve = 1
 
 abbrev pub onRelease : ℕ
 onRelease = 2
+
+-- the paper's numbers for each case of the answer: the refusal, the permitted speed and the mark
+abbrev pub saysOf : Kmh → Permitted → ℕ × ℕ × ℕ
+saysOf v0 Weak = (10, 0, 0)
+saysOf v0 Release = (0, v0 .0, 2)
+saysOf v0 (Curve v) = (0, v .0, 1)
 
 -- v0 is the release speed, g the gradient ahead, d the distance to the signal
 module _ (k : Coefficients) (t : Train) (g : Gradient) (v0 : Kmh) (d : Metre) where
@@ -31,3 +41,7 @@ module _ (k : Coefficients) (t : Train) (g : Gradient) (v0 : Kmh) (d : Metre) wh
 
   unfoldable pub markOf : ℕ
   markOf = cond (fits (v0 .0)) onCurve onRelease
+
+  -- these numbers are the definitions'; refusal 10 of the step model is decided at V0
+  abbrev pub Permits : Permitted → Type 0
+  Permits r = saysOf v0 r ≡ cond (strong k t g v0 v0) (0, permittedOf, markOf) (10, 0, 0)

@@ -1,9 +1,10 @@
--- Whether the brake is strong enough along the overlap: it is at one speed just where it is at every other.
+-- Whether the brake is strong enough along the overlap: it is at one speed just where it is at every other. What is found then.
 use mathlib.Core.Path.{_≡_, refl, sym, _∙_}
-use mathlib.Core.Bool.{Bool, true, false, not}
+use mathlib.Core.Bool.{Bool, true, false, not, cond}
 use Prim.Native.Nat.{ℕ, _≤_, _<_, min}
 use borrow.Author.Tests.{lt-ltb, le-ltb, ne-eqb, not-false}
 use native.Mathlib.Omega.{arith}
+use lib.Dec.{eqb}
 use Rattle.train.specs.declared.Kmh.{Kmh}
 use Rattle.train.specs.declared.Metre.{Metre}
 use Rattle.train.specs.declared.Coefficients.{Coefficients}
@@ -14,7 +15,9 @@ use Rattle.ramp.specs.Answer.{inputs, strong, rampRefusals}
 use Rattle.ramp.proofs.Answers.{by-none}
 use Rattle.ramp.proofs.Always.{is-strong}
 use Rattle.query_climb.specs.Climb.{climb}
-use Rattle.query_release.specs.Release.{atSpeed, stopsWithin, releaseOf, weakPast}
+use Rattle.query_climb.proofs.Climbing.{highest}
+use Rattle.query_release.specs.declared.Release.the-variants.{Weak, Speed}
+use Rattle.query_release.specs.Release.{atSpeed, stopsWithin, releaseOf, weakPast, Releases}
 
 module _ (k : Coefficients) (o : Overrun) where
   abbrev refusal : ℕ → ℕ
@@ -57,3 +60,18 @@ module _ (k : Coefficients) (o : Overrun) where
             go : (b : Bool) → strong k o ≡ b → weakPast k o overlap ≡ true
             go true e = absurd (let i : refusal 1 ≡ 0 = by-none k (atSpeed o 1) z (same-strength 1 ∙ e) in omega arith)
             go false e = weak-is ∙ rw e refl
+
+    module _ (top : Kmh) where
+      at-most : releaseOf k o overlap top ≤ min 100 (top .0)
+      unfolding releaseOf
+      at-most = go (eqb (overlap .0) 0) _
+        where
+          go : (b : Bool) (n : ℕ) → cond b 0 (climb (stopsWithin k o overlap) 0 n) ≤ n
+          go true n = omega arith
+          go false n = omega (arith, highest (stopsWithin k o overlap) 0 n .to)
+
+      pub found-weak : weakPast k o overlap ≡ true → Releases k o overlap top Weak
+      found-weak e = record { says = rw e refl; low = omega arith; slow = omega arith }
+
+      pub found-speed : (v : Kmh) → weakPast k o overlap ≡ false → v .0 ≡ releaseOf k o overlap top → Releases k o overlap top (Speed v)
+      found-speed v e h = record { says = rw (e, h) refl; low = omega (arith, at-most); slow = omega (arith, at-most) }

@@ -1,6 +1,7 @@
 -- What the code finds out, refusal by refusal, makes the answer of the definition.
-use mathlib.Core.Path.{_≡_, refl, _∙_}
+use mathlib.Core.Path.{_≡_, refl, sym, _∙_}
 use mathlib.Core.Bool.{true, false}
+use mathlib.Core.List.{[]}
 use Prim.Native.Nat.{ℕ, _<_}
 use native.Mathlib.Omega.{arith}
 use borrow.Author.Tests.{ltb-false, ne-eqb}
@@ -9,6 +10,8 @@ use Rattle.train.specs.declared.Coefficients.{Coefficients}
 use Rattle.train.specs.Coefficients.{first}
 use Rattle.train.specs.Refusal.{firstOf}
 use Rattle.train.proofs.Refusals.{Rising, rising-before, first-after, first-before, none-holds}
+use Rattle.train.proofs.Judging.{told}
+use Rattle.train.proofs.Lending.{refused-demand, given-demand}
 use Rattle.ramp_motion.specs.declared.Overrun.{Overrun}
 use Rattle.ramp_motion.specs.declared.Plan.{Plan}
 use Rattle.ramp_plan.specs.Fair.{Fair}
@@ -17,6 +20,7 @@ use Rattle.ramp.specs.Answer.{inputs, strong, weak, rampRefusals, refuse
 use Rattle.ramp.specs.Begin.{IsReady, Stops}
 use Rattle.ramp.proofs.Moment.{moment-is}
 use Rattle.ramp.proofs.Kept.{promised, distance-is, wider}
+use Rattle.ramp.proofs.Judging.{ramp-judges}
 
 -- the refusals go by rising numbers, so the lowest that applies is the answer (the train's `lowest` and `applies`)
 pub ramp-rising : (k : Coefficients) (o : Overrun) → Rising 1 (rampRefusals k o)
@@ -57,7 +61,12 @@ module _ (k : Coefficients) (o : Overrun) where
 
   pub ramp-refused : (n : ℕ) → 0 < n → firstOf (rampRefusals k o) ≡ n → RampAnswers k o (refused n)
   unfolding stopOf
-  ramp-refused n l e = record { answer = rw (e, ne-eqb n 0 (λ i. omega arith)); promise = λ z. absurd (let i : n ≡ 0 = z in omega arith) }
+  ramp-refused n l e = record {
+    answer = rw (e, ne-eqb n 0 (λ i. omega arith));
+    promise = λ z. absurd (let i : n ≡ 0 = z in omega arith);
+    lent = refused-demand n _ [] (refl, (refl, tt));
+    spans = told (ramp-judges k o) (sym e) .1;
+  }
 
   pub ramp-given : (m : Plan) (r : Stop) → IsReady k o m → Stops m r → RampAnswers k o r
   unfolding stopOf
@@ -67,4 +76,6 @@ module _ (k : Coefficients) (o : Overrun) where
       record {
         answer = rw (i .accepted, ← t, ← d, ← h .refusal) refl;
         promise = λ z. rw (h .distance) (wider k o 2 _ _ _ (lit≤ tt) (promised k o m (i .plan) (i .small) (r .moment) (h .turns)));
+        lent = rw (h .refusal) (given-demand _);
+        spans = told (ramp-judges k o) (h .refusal ∙ sym (i .accepted)) .1;
       }

@@ -2,7 +2,7 @@
 use mathlib.Core.Path.{_≡_}
 use mathlib.Core.Bool.{Bool, not, cond}
 use mathlib.Core.List.{List, [], _∷_, _++_}
-use Prim.Native.Nat.{ℕ, zero, suc, _+_, _^_, _<_}
+use Prim.Native.Nat.{ℕ, zero, suc, _+_, _^_, _≤_, _<_}
 use lib.Dec.{ltb, eqb}
 use Rattle.exact.specs.Fraction.{whole, _over_, _+q_, _-q_, leq, _≤q_, _<q_}
 use Rattle.train.specs.declared.Kmh.{Kmh}
@@ -10,6 +10,8 @@ use Rattle.train.specs.declared.Gradient.{Gradient}
 use Rattle.train.specs.declared.Coefficients.{Coefficients}
 use Rattle.train.specs.Units.{inMillimetres}
 use Rattle.train.specs.Refusal.{Refusal, _gives_, firstOf, weightRefusals, gradientRefusals, strongEnough}
+use Rattle.train.specs.Judged.{Rule, _keeps_, Judged, weightRule, gradientRule, brakeRule}
+use Rattle.train.specs.Lent.{NoneLent}
 use Rattle.ramp_motion.specs.declared.Overrun.{Overrun}
 use Rattle.ramp_motion.specs.Motion.{di, dp, speedAt, placeAt}
 use Rattle.ramp.specs.declared.Stop.{Stop}
@@ -29,6 +31,14 @@ timeRefusals tm tr = ltb 2000 tm gives 6 ∷ ltb tr 1 gives 6 ∷ ltb 3000 tr gi
 -- what the inputs alone turn away
 abbrev pub inputs : Overrun → List Refusal
 inputs o = weightRefusals (o .weight) ++ (speedRefusals (o .v) ++ (gradientRefusals (o .gradient) ++ timeRefusals (o .tm) (o .tr)))
+
+-- what is kept, in words of its own: of the times, and of all that the call looks at
+abbrev pub timesRule : ℕ → ℕ → Rule
+timesRule tm tr = 6 keeps ((tm ≤ 2000) × ((1 ≤ tr) × (tr ≤ 3000)))
+
+abbrev pub rampRules : Coefficients → Overrun → List Rule
+rampRules k o =
+    weightRule (o .weight) ∷ 3 keeps ((1 ≤ o .v .0) × (o .v .0 ≤ 100)) ∷ gradientRule (o .gradient) ∷ timesRule (o .tm) (o .tr) ∷ brakeRule (dp o +q di k o) ∷ []
 
 -- the last number below n at which b holds, 0 where it holds at none
 unfoldable pub lastBelow : ℕ → (ℕ → Bool) → ℕ
@@ -70,7 +80,9 @@ module _ (k : Coefficients) (o : Overrun) where
     pub never : (p q : ℕ) → 0 < q → placeAt k o (p over q) ≤q (mm over 1000)
     pub near : (mm over 1000) -q (slack over 1000) <q placeAt k o (ms over 1000)
 
-  -- what the call gives: the answer by definition, and the promise of every answer
+  -- what the call gives: the answer by definition, the promise of every answer, the first demand, and what is turned away
   pub record RampAnswers (r : Stop) : Type 0 where
     pub answer : r ≡ stopOf
     pub promise : r .refusal ≡ 0 → Promise leeway (r .distance .0) (r .moment)
+    pub lent : NoneLent (r .refusal) (r .distance .0 ∷ r .moment ∷ [])
+    pub spans : Judged (rampRules k o) (r .refusal)

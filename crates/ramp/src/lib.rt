@@ -2,11 +2,13 @@
 // Takes: `train_slope`, `ramp_plan`, `ramp_stop`. Gives: the operation `ramp`; to `query_release` the motion by itself (`start`,
 // `stop_from`), to `query` refusal 6 (`of_times`).
 ghost use mathlib.Core.Path.{_≡_};
+ghost use mathlib.Core.List.{[], _∷_};
 ghost use Prim.Native.Nat.{_≤_};
 ghost use Rattle.train.specs.Coefficients.{first, Within};
 ghost use Rattle.train.specs.Gradient.{gradientOf};
 ghost use Rattle.train.specs.Refusal.{firstOf};
-ghost use Rattle.ramp.specs.Answer.{overrun, timeRefusals, inputs, refused, RampAnswers};
+ghost use Rattle.train.specs.Judged.{Judged};
+ghost use Rattle.ramp.specs.Answer.{overrun, timeRefusals, timesRule, inputs, refused, RampAnswers};
 ghost use Rattle.ramp_plan.specs.Fair.{Small, Enough};
 ghost use Rattle.ramp.specs.Begin.{Starts, Stops, fromSpeed};
 use ramp_motion::Overrun;
@@ -31,7 +33,7 @@ pub enum Begun {
 
 // What TM and TR in hundredths of a second turn away, or 0.
 pub fn of_times(tm: u32, tr: u32) -> u32
-    ensures { λ r. ⌜ r ≡ firstOf (timeRefusals tm tr) ⌝ }
+    ensures { λ r. ⌜ (r ≡ firstOf (timeRefusals tm tr)) × Judged (timesRule tm tr ∷ []) r ⌝ }
 {
     if tm > 2000 {
         return 6;

@@ -2,10 +2,9 @@
 use borrow.Author.Needs.{needs}
 use mathlib.Core.Path.{_≡_, _∙_}
 use Rattle.query_permitted.specs.declared.Permitted.the-variants.{Weak, Release, Curve}
-use Rattle.query_permitted.specs.Permitted.{onCurve, onRelease}
-use Rattle.query_permitted.specs.Find.{Permits}
+use Rattle.query_permitted.specs.Permitted.{onCurve, onRelease, Permits}
 use Rattle.query.specs.Answer.{refused, answered}
-use Rattle.query.proofs.Answers.{too-weak, by-release, by-curve}
+use Rattle.query.proofs.Answers.{as-permitted}
 use Rattle.query.proofs.answer_at.Statement.{statement}
 use Rattle.query.proofs.answer_at.Tie as tie
 
@@ -36,7 +35,7 @@ returns c =
     let a = s .before .args in
     let h : Permits (a .k) (a .train) (a .ahead) (a .release) (a .distance) Weak = rw (c .before .enum-told .given .1) at (s .speed .ensures) in
     let e : c .refused-with .result ≡ refused 10 = c .refused-with .ensures in
-    e ∙ too-weak (a .k) (a .train) (a .ahead) (a .distance) (a .release) h
+    e ∙ as-permitted (a .k) (a .train) (a .ahead) (a .distance) (a .release) Weak h
 
 returns-2 : tie.Need-returns-2
 returns-2 c =
@@ -44,7 +43,7 @@ returns-2 c =
     let a = s .before .args in
     let h : Permits (a .k) (a .train) (a .ahead) (a .release) (a .distance) Release = rw (c .before .enum-told2 .given .1) at (s .speed .ensures) in
     let e : c .given .result ≡ answered (a .release) (a .release) onRelease = c .given .ensures in
-    e ∙ by-release (a .k) (a .train) (a .ahead) (a .distance) (a .release) h
+    e ∙ as-permitted (a .k) (a .train) (a .ahead) (a .distance) (a .release) Release h
 
 returns-3 : tie.Need-returns-3
 returns-3 c =
@@ -54,7 +53,7 @@ returns-3 c =
     let v = p .permitted .given .0 .0 in
     let h : Permits (a .k) (a .train) (a .ahead) (a .release) (a .distance) (Curve v) = rw (p .permitted .given .1) at (s .speed .ensures) in
     let e : c .given2 .result ≡ answered (a .release) v onCurve = c .given2 .ensures in
-    e ∙ by-curve (a .k) (a .train) (a .ahead) (a .distance) (a .release) v h
+    e ∙ as-permitted (a .k) (a .train) (a .ahead) (a .distance) (a .release) (Curve v) h
 
 pub answer-at-spec : {M : Type 1} → statement M
 answer-at-spec =

@@ -2,12 +2,12 @@
 use borrow.Author.Needs.{needs}
 use mathlib.Core.Path.{_≡_, _∙_}
 use Rattle.query_release.specs.declared.Release.the-variants.{Weak, Speed}
-use Rattle.query_release.specs.Find.{Releases}
+use Rattle.query_release.specs.Release.{Releases}
 use Rattle.query.specs.Demand.{pastAt}
 use Rattle.query.specs.Begin.{answerAt}
 use Rattle.query.proofs.Creep.{inputs-past}
 use Rattle.query.proofs.Third.{fit-ahead}
-use Rattle.query.proofs.Answers.{too-weak-past, with-release}
+use Rattle.query.proofs.Answers.{as-released}
 use Rattle.query.proofs.answer_on.Statement.{statement}
 use Rattle.query.proofs.answer_on.Tie as tie
 
@@ -32,14 +32,15 @@ answer-at-requires : tie.Need-answer-at-requires
 answer-at-requires c κs =
     let s = c .before .before .before .before .before .before .before .before .before in
     let a = s .args in
-    (s .pre .0, s .pre .1, rw (found c .1) (fit-ahead (a .k) (a .train) (a .tm) (a .tr) (a .w) (s .pre .2) (s .pre .0)))
+    let f = fit-ahead (a .k) (a .train) (a .tm) (a .tr) (a .w) (s .pre .2) (s .pre .0) in
+    (s .pre .0, s .pre .1, record { weight = f .weight; length = f .length; gradient = f .gradient; speeds = found c .slow; top = f .top })
 
 returns : tie.Need-returns
 returns c =
     let s = c .before .before .before in
     let a = s .before .before .before .before .before .before .args in
     let h : Releases (a .k) (pastAt (a .train) (a .tm) (a .tr) (a .w) 1) (a .w .overlap) (a .train .top) Weak = rw (c .before .enum-told .given .1) at (s .speed .ensures) in
-    c .refused-with .ensures ∙ too-weak-past (a .k) (a .train) (a .tm) (a .tr) (a .w) h
+    c .refused-with .ensures ∙ as-released (a .k) (a .train) (a .tm) (a .tr) (a .w) Weak h
 
 returns-2 : tie.Need-returns-2
 returns-2 c =
@@ -47,7 +48,7 @@ returns-2 c =
     let a = f .before .before .before .before .before .before .before .before .before .args in
     let v = f .before .release .given .0 .0 in
     let e : c .answer-at .result ≡ answerAt (a .k) (a .train) (a .w .ahead) (a .w .distance) v = c .answer-at .ensures in
-    e ∙ with-release (a .k) (a .train) (a .tm) (a .tr) (a .w) v (found f)
+    e ∙ as-released (a .k) (a .train) (a .tm) (a .tr) (a .w) (Speed v) (found f)
 
 pub answer-on-spec : {M : Type 1} → statement M
 answer-on-spec =

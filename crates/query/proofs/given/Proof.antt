@@ -8,7 +8,7 @@ ceilings-requires : tie.Need-ceilings-requires
 ceilings-requires c κs = search needs
 
 returns : tie.Need-returns
-returns c = rw (c .before .before .before .ceilings .ensures .0) refl
+returns c = rw (c .before .before .before .ceilings .ensures .answer) refl
 
 pub given-spec : {M : Type 1} → statement M
 given-spec = tie.close (tie.spec ceilings-requires returns)

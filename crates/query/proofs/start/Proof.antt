@@ -26,7 +26,7 @@ returns-2 : tie.Need-returns-2
 returns-2 c =
     let e = c .before .before in
     let a = e .before .before .before .args in
-    (omega (arith, c .if2 .taken), by-times (a .train) (a .tm) (a .tr) (now (a .s)) (a .signal) (a .head .0) (good e) _ (c .if2 .taken) (c .before .of-times .ensures))
+    (omega (arith, c .if2 .taken), by-times (a .train) (a .tm) (a .tr) (now (a .s)) (a .signal) (a .head .0) (good e) _ (c .if2 .taken) (c .before .of-times .ensures .0))
 
 find-requires : tie.Need-find-requires
 find-requires c κs = search needs
@@ -36,7 +36,7 @@ returns-3 c =
     let i = c .before in
     let e = i .before .before in
     let a = e .before .before .before .args in
-    started (a .train) (a .tm) (a .tr) (now (a .s)) (a .signal) (a .head .0) (good e) (omega (arith, i .if2 .left, i .before .of-times .ensures)) (c .find .result) (c .find .ensures)
+    started (a .train) (a .tm) (a .tr) (now (a .s)) (a .signal) (a .head .0) (good e) (omega (arith, i .if2 .left, i .before .of-times .ensures .0)) (c .find .result) (c .find .ensures)
 
 pub start-spec : {M : Type 1} → statement M
 start-spec =

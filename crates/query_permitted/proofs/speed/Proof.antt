@@ -2,12 +2,12 @@
 use borrow.Author.Needs.{needs}
 use borrow.Author.Tests.{leb-true, not-true, not-false}
 use mathlib.Core.Bool.{true}
-use mathlib.Core.Path.{_≡_, sym, _∙_}
+use mathlib.Core.Path.{_≡_, refl, sym, _∙_}
 use native.Mathlib.Nat.{le-refl, le-trans}
 use Rattle.step_braking.specs.Plan.{strongOf, Near, Enough}
 use Rattle.step_braking.specs.Braking.{strong}
 use Rattle.step_braking.proofs.Exact.{strong-is}
-use Rattle.query_permitted.specs.Permitted.{fits}
+use Rattle.query_permitted.specs.Permitted.{fits, permittedOf, markOf}
 use Rattle.query_permitted.proofs.Fit.{enough-on, tested-is, climbs-alike}
 use Rattle.query_permitted.proofs.speed.Statement.{statement}
 use Rattle.query_permitted.proofs.speed.Tie as tie
@@ -41,13 +41,14 @@ is-strong-requires : tie.Need-is-strong-requires
 is-strong-requires c κs = (c .course-of .ensures .small, near c)
 
 returns : tie.Need-returns
-returns c = sym (strong-says (c .before)) ∙ not-true _ (c .if1 .taken)
+returns c = rw (sym (strong-says (c .before)) ∙ not-true _ (c .if1 .taken)) refl
 
 fits-requires : tie.Need-fits-requires
 fits-requires c κs = (c .before .before .course-of .ensures .small, near (c .before .before), enough c)
 
 returns-2 : tie.Need-returns-2
-returns-2 c = (is-strong (c .before .before), sym (fit-says (c .before)) ∙ not-true _ (c .if2 .taken))
+unfolding permittedOf markOf
+returns-2 c = rw (is-strong (c .before .before), sym (fit-says (c .before)) ∙ not-true _ (c .if2 .taken)) refl
 
 last-fitting-requires : tie.Need-last-fitting-requires
 last-fitting-requires c κs =
@@ -58,12 +59,15 @@ last-fitting-requires c κs =
     record { small = o .small; steady = o .minus ∙ s .pre .1 .minus; enough = enough-on (a .k) (s .pre .0) (s .pre .1) (a .train) (a .g) _ o (a .v0) (enough e); ahead = s .pre .5; high = s .pre .6 }
 
 returns-3 : tie.Need-returns-3
+unfolding permittedOf markOf
 returns-3 c =
     let f = c .before .before in
     let e = f .before in
     let s = e .before .before .before .before in
     let a = s .args in
+    rw
     (is-strong e, sym (fit-says f) ∙ not-false _ (c .before .if2 .left), c .last-fitting .ensures ∙ climbs-alike (a .k) (s .pre .0) (s .pre .1) (a .train) (a .g) _ (e .before .before .course-of .ensures) (a .v0) (enough e) (a .d) _)
+    refl
 
 pub speed-spec : {M : Type 1} → statement M
 speed-spec =

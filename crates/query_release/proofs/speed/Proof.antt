@@ -5,7 +5,7 @@ use native.Mathlib.Omega.{arith}
 use Rattle.ramp.specs.declared.Begun.the-variants.{Refused}
 use Rattle.ramp.specs.Begin.{Starts, IsReady}
 use Rattle.query_release.specs.Release.{atSpeed}
-use Rattle.query_release.proofs.Past.{no-overlap, release-is, strong-past, weak-past}
+use Rattle.query_release.proofs.Past.{no-overlap, release-is, strong-past, weak-past, found-weak, found-speed}
 use Rattle.query_release.proofs.speed.Statement.{statement}
 use Rattle.query_release.proofs.speed.Tie as tie
 
@@ -17,7 +17,10 @@ ready : (c : tie.After-known-told) → let a = c .before .before .before .before
 ready c = rw (c .before .begun .given .1) at (consulted (c .before .before .before))
 
 returns : tie.Need-returns
-returns c = let a = c .before .before .args in no-overlap (a .k) (a .o) (a .overlap) (a .top) (omega (arith, c .if1 .taken))
+returns c =
+    let a = c .before .before .args in
+    let (e, h) = no-overlap (a .k) (a .o) (a .overlap) (a .top) (omega (arith, c .if1 .taken)) in
+    found-speed (a .k) (a .o) (a .overlap) (a .top) _ e h
 
 at-speed-requires : tie.Need-at-speed-requires
 at-speed-requires c κs = search needs
@@ -41,7 +44,7 @@ returns-2 c =
     let s = i .before .before in
     let a = s .args in
     let h : Starts (a .k) (atSpeed (a .o) 1) (Refused (c .enum-told .given .0 .0)) = rw (c .enum-told .given .1) at (consulted t) in
-    weak-past (a .k) (a .o) (a .overlap) (i .if1 .left) (s .pre .1) (omega (arith, h .0, h .1))
+    found-weak (a .k) (a .o) (a .overlap) (a .top) (weak-past (a .k) (a .o) (a .overlap) (i .if1 .left) (s .pre .1) (omega (arith, h .0, h .1)))
 
 returns-3 : tie.Need-returns-3
 returns-3 c =
@@ -49,7 +52,8 @@ returns-3 c =
     let i = c .before .before .before .before .before .before in
     let a = i .before .before .args in
     let h = i .if1 .left in
-    (strong-past (a .k) (a .o) (a .overlap) h (r .accepted), c .last-stopping .ensures (a .k) (atSpeed (a .o) 1) (r .plan) ∙ release-is (a .k) (a .o) (a .overlap) h (a .top))
+    found-speed (a .k) (a .o) (a .overlap) (a .top) _ (strong-past (a .k) (a .o) (a .overlap) h (r .accepted))
+    (c .last-stopping .ensures (a .k) (atSpeed (a .o) 1) (r .plan) ∙ release-is (a .k) (a .o) (a .overlap) h (a .top))
 
 pub speed-spec : {M : Type 1} → statement M
 speed-spec =

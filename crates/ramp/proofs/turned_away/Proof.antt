@@ -54,7 +54,7 @@ returns-5 : tie.Need-returns-5
 returns-5 c =
     let g = c .before .before in
     let o = g .before .before .before .before .before .before .args .o in
-    on (g .before) _ (first-after 0 (gradientRefusals (o .gradient)) (timeRefusals (o .tm) (o .tr)) (gradient-rising (o .gradient)) (omega (arith, c .before .if4 .left, g .of-gradient .ensures .0)) ∙ sym (c .of-times .ensures))
+    on (g .before) _ (first-after 0 (gradientRefusals (o .gradient)) (timeRefusals (o .tm) (o .tr)) (gradient-rising (o .gradient)) (omega (arith, c .before .if4 .left, g .of-gradient .ensures .0)) ∙ sym (c .of-times .ensures .0))
 
 pub turned-away-spec : {M : Type 1} → statement M
 turned-away-spec =
