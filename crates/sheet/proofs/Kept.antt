@@ -13,6 +13,7 @@ use Rattle.train.specs.Gradient.{gradientOf, Moderate}
 use Rattle.train.specs.Refusal.{_gives_}
 use Rattle.train.proofs.Judging.{Settles, settled}
 use Rattle.sheet_line.specs.Line.{Line, rises, moderate, countRules, stretchRules, signalRules}
+use Rattle.sheet_line.specs.Records.{Decides}
 use Rattle.sheet.specs.Sheet.{lineOf, headerRules, keeps, accepted}
 use Rattle.sheet.specs.Headed.{Headed}
 use Rattle.sheet.specs.Kept.{Kept, IsSheet, sheetRule}
@@ -100,6 +101,9 @@ sheet-of s h = let (a, b) = headed-of s h in record { header = a; line = b }
 
 pub sheet-is : (s : List ℕ) → IsSheet s → accepted s ≡ true
 sheet-is s h = accepted-is s (h .header) ∙ keeps-of (lineOf s) (h .line)
+
+pub sheet-decides : (s : List ℕ) → Decides (accepted s) (IsSheet s)
+sheet-decides s = record { yes = sheet-of s; no = λ e h. false≢true (sym e ∙ sheet-is s h) }
 
 pub sheet-settles : (s : List ℕ) → Settles (sheetRule s) (not (accepted s) gives 7 ∷ [])
 sheet-settles s = settled (sheetRule s) tt (not (accepted s)) (λ e. sheet-of s (not-false _ e)) (λ e h. false≢true (sym (not-true _ e) ∙ sheet-is s h))
