@@ -1,19 +1,23 @@
 -- What the writer promises, on each of its answers.
-use mathlib.Core.Path.{_≡_, ap, _∙_}
+use mathlib.Core.Path.{_≡_, refl, sym, ap, _∙_}
 use mathlib.Core.Bool.{true, false}
-use mathlib.Core.List.{List, _++_}
+use mathlib.Core.List.{List, [], _∷_, _++_}
 use Prim.Native.Nat.{ℕ, suc, _≤_, _<_}
 use native.Mathlib.Omega.{arith}
 use borrow.Author.Tests.{lt-ltb, le-ltb}
-use lib.ListN.{length, take, drop}
-use lib.Seq.{take-at}
+use lib.ListN.{length, take, drop, length-append, length-drop}
+use lib.Seq.{take-at, drop-at}
+use Rattle.train.specs.Judged.{_keeps_, Judged}
+use Rattle.train.specs.Refusal.{firstOf}
+use Rattle.train.proofs.Judging.{at-least, no-more, _then_, told}
+use Rattle.train.proofs.Lending.{refused-demand}
 use Rattle.lists.specs.Put.{put}
 use Rattle.lists.proofs.Laid.{put-front}
 use Rattle.sheet.specs.Sheet.{accepted}
-use Rattle.sheet.specs.Fields.{Fields, listed, writable, sheetOf, fieldsOf}
+use Rattle.sheet.specs.Fields.{Fields, listed, writable, Writable, sheetOf, fieldsOf}
 use Rattle.sheet.proofs.RoundTrip.{bytes-length}
-use Rattle.sheet.proofs.Writable.{written-sheet, written-back}
-use Rattle.sheet_writer.specs.Answer.{size, writeOf, bufferAfter, Writes}
+use Rattle.sheet.proofs.Writable.{writable-settles, written-sheet, written-back}
+use Rattle.sheet_writer.specs.Answer.{size, writeRefusals, writeOf, bufferAfter, Writes}
 
 never : {A : Type 0} (n : ℕ) → suc n ≡ 0 → A
 never n e = absurd (let z : suc n ≡ 0 = e in omega arith)
