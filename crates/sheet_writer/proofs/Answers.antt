@@ -23,14 +23,37 @@ never : {A : Type 0} (n : ℕ) → suc n ≡ 0 → A
 never n e = absurd (let z : suc n ≡ 0 = e in omega arith)
 
 module _ (f : Fields) (lent : List ℕ) where
+  -- the refusals by the rules
+  spans : (n : ℕ) → n ≡ firstOf (writeRefusals f (length lent)) → Judged (7 keeps Writable f ∷ 11 keeps (size f ≤ length lent) ∷ []) n
+  spans n e = told (writable-settles f then at-least 11 tt (size f) (length lent) then no-more) e .1
+
   pub broken : writable f ≡ false → Writes f lent (record { refusal = 7; length = 0 }) lent
   unfolding writeOf bufferAfter
-  broken w = record { answer = simp w; memory = simp w; sheet = never 6; back = never 6 }
+  broken w =
+      record {
+        lent = refused-demand 7 _ lent (refl, tt);
+        spans = spans 7 (simp w);
+        long = never 6;
+        answer = simp w;
+        memory = simp w;
+        sheet = never 6;
+        back = never 6;
+      }
 
   module _ (w : writable f ≡ true) where
     pub no-room : length lent < size f → Writes f lent (record { refusal = 11; length = 0 }) lent
     unfolding writeOf bufferAfter
-    no-room h = let t = lt-ltb (length lent) (size f) h in record { answer = simp (w, t); memory = simp (w, t); sheet = never 10; back = never 10 }
+    no-room h =
+        let t = lt-ltb (length lent) (size f) h in
+        record {
+          lent = refused-demand 11 _ lent (refl, tt);
+          spans = spans 11 (simp (w, t));
+          long = never 10;
+          answer = simp (w, t);
+          memory = simp (w, t);
+          sheet = never 10;
+          back = never 10;
+        }
 
     pub written : {after : List ℕ} → size f ≤ length lent → after ≡ put 0 (sheetOf f) lent → Writes f lent (record { refusal = 0; length = size f }) after
     unfolding writeOf bufferAfter
@@ -39,4 +62,14 @@ module _ (f : Fields) (lent : List ℕ) where
         let n = bytes-length (listed f) in
         let m : after ≡ sheetOf f ++ drop (size f) lent = e ∙ put-front (sheetOf f) lent ∙ ap (λ (k : ℕ). sheetOf f ++ drop k lent) n in
         let front : take (size f) after ≡ sheetOf f = ap (take (size f)) m ∙ take-at (sheetOf f) (drop (size f) lent) (size f) n in
-        record { answer = simp (w, t); memory = m ∙ simp (w, t); sheet = λ z. ap accepted front ∙ written-sheet f w; back = λ z. ap fieldsOf front ∙ written-back f w }
+        let behind : drop (size f) after ≡ drop (size f) lent = ap (drop (size f)) m ∙ drop-at (sheetOf f) (drop (size f) lent) (size f) n in
+        let whole : length after ≡ length lent = ap length m ∙ length-append (sheetOf f) (drop (size f) lent) ∙ (let i = length-drop (size f) lent in omega arith) in
+        record {
+          lent = record { zeros = λ l. absurd (let z : 0 < 0 = l in omega arith); untouched = λ l. absurd (let z : 0 < 0 = l in omega arith); room = omega arith; size = whole; beyond = behind };
+          spans = spans 0 (simp (w, t));
+          long = λ z. omega arith;
+          answer = simp (w, t);
+          memory = m ∙ simp (w, t);
+          sheet = λ z. ap accepted front ∙ written-sheet f w;
+          back = λ z. ap fieldsOf front ∙ written-back f w;
+        }

@@ -5,8 +5,8 @@ use denote.Ref.{now}
 use mathlib.Core.Bool.{true}
 use mathlib.Core.Path.{_≡_, sym, _∙_}
 use native.Mathlib.Omega.{arith}
-use Rattle.sheet.specs.Fields.{Fields, writable}
-use Rattle.sheet.proofs.Writable.{Writable, writable-at}
+use Rattle.sheet.specs.Fields.{Fields, writable, Writable}
+use Rattle.sheet.proofs.Writable.{writable-at}
 use Rattle.sheet_writer.proofs.Answers.{broken, no-room, written}
 use Rattle.sheet_writer.proofs.write.Statement.{statement}
 use Rattle.sheet_writer.proofs.write.Tie as tie
