@@ -65,12 +65,6 @@ module _ (s : List ℕ) (sheet : accepted s ≡ true) where
       (λ l. ap (λ m. moveOf s m .mark) (behind k l) ∙ ap (λ (r : Move). r .mark) (stays (at (lineOf s .stretches)) (omega arith)))
       (below k (lineOf s .stretches))
 
-  pub in-order : (k : ℕ) → k < lineOf s .stretches → moveOf s (afterMoves s k) ≡ stepOn (lineOf s) (at k)
-  in-order k h = ap (moveOf s) (before k (omega arith)) ∙ move-on (at k) h
-
-  pub for-ever : (k : ℕ) → lineOf s .stretches ≤ k → moveOf s (afterMoves s k) ≡ stepOff (afterMoves s k)
-  for-ever k h = stays (afterMoves s k) (rw (behind k h) (omega arith))
-
   -- after k moves the mark stands before stretch k, or both are at the end
   stands : (k : ℕ) → (afterMoves s k .next ≡ k) ⊎ ((lineOf s .stretches ≤ k) × (lineOf s .stretches ≤ afterMoves s k .next))
   stands k =
