@@ -8,6 +8,7 @@ use borrow.Author.Tests.{lt-ltb, le-ltb}
 use lib.ListN.{length, take, drop, length-append, length-drop}
 use lib.Seq.{take-at, drop-at}
 use Rattle.train.specs.Judged.{_keeps_, Judged}
+use Rattle.train.specs.Lent.{FirstDemand}
 use Rattle.train.specs.Refusal.{firstOf}
 use Rattle.train.proofs.Judging.{at-least, no-more, _then_, told}
 use Rattle.train.proofs.Lending.{refused-demand}
@@ -27,11 +28,15 @@ module _ (f : Fields) (lent : List ℕ) where
   spans : (n : ℕ) → n ≡ firstOf (writeRefusals f (length lent)) → Judged (7 keeps Writable f ∷ 11 keeps (size f ≤ length lent) ∷ []) n
   spans n e = told (writable-settles f then at-least 11 tt (size f) (length lent) then no-more) e .1
 
+  -- a refusal
+  left-alone : (n k : ℕ) → k ≡ 0 → FirstDemand n (k ∷ []) lent lent k
+  left-alone n k z = rw z (refused-demand n (0 ∷ []) lent (refl, tt))
+
   pub broken : writable f ≡ false → Writes f lent (record { refusal = 7; length = 0 }) lent
   unfolding writeOf bufferAfter
   broken w =
       record {
-        lent = refused-demand 7 _ lent (refl, tt);
+        lent = left-alone 7 _ (omega arith);
         spans = spans 7 (simp w);
         long = never 6;
         answer = simp w;
@@ -46,7 +51,7 @@ module _ (f : Fields) (lent : List ℕ) where
     no-room h =
         let t = lt-ltb (length lent) (size f) h in
         record {
-          lent = refused-demand 11 _ lent (refl, tt);
+          lent = left-alone 11 _ (omega arith);
           spans = spans 11 (simp (w, t));
           long = never 10;
           answer = simp (w, t);
