@@ -7,6 +7,7 @@ use native.Mathlib.Omega.{arith}
 use borrow.Author.Tests.{lt-ltb, ltb-true, le-leb, leb-true, eq-eqb, eqb-true, not-true, not-false}
 use lib.Dec.{leb}
 use lib.IntN.{ℤ}
+use lib.ListN.{length}
 use Rattle.lists.specs.Counted.{allHold}
 use Rattle.lists.proofs.Holding.{and-left, and-right, every-at, every-of, each-of, all-of}
 use Rattle.train.specs.Gradient.{gradientOf, Moderate}
@@ -88,12 +89,12 @@ pub headed-of : (s : List ℕ) → accepted s ≡ true → Headed s × Kept (lin
 unfolding accepted
 headed-of s h =
     let (a, (b, (c, (d, (e, (f, z)))))) = each-of (headerRules s ++ (keeps (lineOf s) ∷ [])) h in
-    (record { room = leb-true _ _ a; stretches = eqb-true _ _ b; signals = eqb-true _ _ c; whole = eqb-true _ _ d; lent = eqb-true _ _ e }, kept-of (lineOf s) f)
+    (record { room = leb-true _ _ a; stretches = eqb-true _ _ b; signals = eqb-true _ _ c; whole = eqb-true _ _ d; lent = eqb-true (length s) _ e }, kept-of (lineOf s) f)
 
 pub accepted-is : (s : List ℕ) → Headed s → accepted s ≡ keeps (lineOf s)
 unfolding accepted allHold
 accepted-is s h =
-    rw (le-leb _ _ (h .room), eq-eqb _ _ (h .stretches), eq-eqb _ _ (h .signals), eq-eqb _ _ (h .whole), eq-eqb _ _ (h .lent)) (and-true (keeps (lineOf s)))
+    rw (le-leb _ _ (h .room), eq-eqb _ _ (h .stretches), eq-eqb _ _ (h .signals), eq-eqb _ _ (h .whole), eq-eqb (length s) _ (h .lent)) (and-true (keeps (lineOf s)))
 
 -- so the bytes that are accepted are the sheets
 pub sheet-of : (s : List ℕ) → accepted s ≡ true → IsSheet s

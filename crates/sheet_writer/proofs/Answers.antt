@@ -1,5 +1,5 @@
 -- What the writer promises, on each of its answers.
-use mathlib.Core.Path.{_≡_, refl, sym, ap, _∙_}
+use mathlib.Core.Path.{_≡_, refl, sym, ap, subst, _∙_}
 use mathlib.Core.Bool.{true, false}
 use mathlib.Core.List.{List, [], _∷_, _++_}
 use Prim.Native.Nat.{ℕ, suc, _≤_, _<_}
@@ -14,7 +14,8 @@ use Rattle.train.proofs.Judging.{at-least, no-more, _then_, told}
 use Rattle.train.proofs.Lending.{refused-demand}
 use Rattle.lists.specs.Put.{put}
 use Rattle.lists.proofs.Laid.{put-front}
-use Rattle.sheet.specs.Sheet.{accepted}
+use Rattle.sheet.specs.Kept.{IsSheet}
+use Rattle.sheet.proofs.Kept.{sheet-of}
 use Rattle.sheet.specs.Fields.{Fields, listed, writable, Writable, sheetOf, fieldsOf}
 use Rattle.sheet.proofs.RoundTrip.{bytes-length}
 use Rattle.sheet.proofs.Writable.{writable-settles, written-sheet, written-back}
@@ -75,6 +76,6 @@ module _ (f : Fields) (lent : List ℕ) where
           long = λ z. omega arith;
           answer = simp (w, t);
           memory = m ∙ simp (w, t);
-          sheet = λ z. ap accepted front ∙ written-sheet f w;
+          sheet = λ z. subst IsSheet (sym front) (sheet-of (sheetOf f) (written-sheet f w));
           back = λ z. ap fieldsOf front ∙ written-back f w;
         }

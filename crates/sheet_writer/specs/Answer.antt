@@ -1,6 +1,6 @@
 -- Document 01, "Line sheet" and "What is turned away": what the writer answers, and the lent buffer afterwards.
 use mathlib.Core.Path.{_≡_}
-use mathlib.Core.Bool.{true, not, cond}
+use mathlib.Core.Bool.{not, cond}
 use mathlib.Core.List.{List, [], _∷_, _++_}
 use Prim.Native.Nat.{ℕ, _+_, _*_, _≤_}
 use lib.Dec.{ltb, eqb}
@@ -9,8 +9,9 @@ use Rattle.train.specs.declared.Written.{Written}
 use Rattle.train.specs.Refusal.{Refusal, _gives_, firstOf}
 use Rattle.train.specs.Judged.{_keeps_, Judged}
 use Rattle.train.specs.Lent.{FirstDemand}
-use Rattle.sheet.specs.Sheet.{sheetLength, accepted}
+use Rattle.sheet.specs.Sheet.{sheetLength}
 use Rattle.sheet.specs.Fields.{Fields, writable, Writable, sheetOf, fieldsOf}
+use Rattle.sheet.specs.Kept.{IsSheet}
 
 module _ (f : Fields) where
   abbrev pub size : ℕ
@@ -35,5 +36,5 @@ module _ (f : Fields) where
     pub lent : FirstDemand (r .refusal) (r .length ∷ []) before after (r .length)
     pub spans : Judged (7 keeps Writable f ∷ 11 keeps (20 + 6 * length (f .starts) + 6 * length (f .places) ≤ length before) ∷ []) (r .refusal)
     pub long : r .refusal ≡ 0 → r .length ≡ 20 + 6 * length (f .starts) + 6 * length (f .places)
-    pub sheet : r .refusal ≡ 0 → accepted (take (r .length) after) ≡ true
+    pub sheet : r .refusal ≡ 0 → IsSheet (take (r .length) after)
     pub back : r .refusal ≡ 0 → fieldsOf (take (r .length) after) ≡ f
