@@ -10,8 +10,8 @@ ghost use Rattle.step.specs.Answer.{StepAnswers};
 ghost use Rattle.ramp.specs.Answer.{overrun, RampAnswers};
 ghost use Rattle.ceilings.specs.Answer.{CeilingAnswers};
 ghost use Rattle.sheet.specs.Fields.{fourLists};
-ghost use Rattle.sheet_lookup.specs.Answer.{stretchOf, signalOf};
-ghost use Rattle.sheet_mark.specs.Answer.{moveOf, Again};
+ghost use Rattle.sheet_lookup.specs.Answer.{StretchAnswers, SignalAnswers};
+ghost use Rattle.sheet_mark.specs.Answer.{MoveAnswers};
 ghost use Rattle.sheet_writer.specs.Answer.{Writes};
 ghost use Rattle.query.specs.Answer.{QueryAnswers};
 ghost use Rattle.approach_train.specs.Entered.{trainOf};
@@ -112,21 +112,21 @@ pub extern "C" fn approach_sheet_write(
 
 #[no_mangle]
 pub extern "C" fn approach_sheet_stretch(sheet: &[u8], number: u32) -> Stretch
-    ensures { λ r. ⌜ (r ≡ stretchOf (now (sheet .entry)) number) × Again (now (sheet .entry)) (r .refusal) ⌝ }
+    ensures { λ r. ⌜ StretchAnswers (now (sheet .entry)) number r ⌝ }
 {
     sheet_lookup::read_stretch(sheet, number)
 }
 
 #[no_mangle]
 pub extern "C" fn approach_sheet_signal(sheet: &[u8], number: u32) -> Signal
-    ensures { λ r. ⌜ (r ≡ signalOf (now (sheet .entry)) number) × Again (now (sheet .entry)) (r .refusal) ⌝ }
+    ensures { λ r. ⌜ SignalAnswers (now (sheet .entry)) number r ⌝ }
 {
     sheet_lookup::read_signal(sheet, number)
 }
 
 #[no_mangle]
 pub extern "C" fn approach_sheet_next(sheet: &[u8], mark: Mark) -> Move
-    ensures { λ r. ⌜ (r ≡ moveOf (now (sheet .entry)) mark) × Again (now (sheet .entry)) (r .refusal) ⌝ }
+    ensures { λ r. ⌜ MoveAnswers (now (sheet .entry)) mark r ⌝ }
 {
     mark.moved(sheet)
 }

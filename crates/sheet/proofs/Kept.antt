@@ -7,12 +7,14 @@ use native.Mathlib.Omega.{arith}
 use borrow.Author.Tests.{lt-ltb, ltb-true, le-leb, leb-true, eq-eqb, eqb-true, not-true, not-false}
 use lib.Dec.{leb}
 use lib.IntN.{ℤ}
+use lib.ListN.{length}
 use Rattle.lists.specs.Counted.{allHold}
 use Rattle.lists.proofs.Holding.{and-left, and-right, every-at, every-of, each-of, all-of}
 use Rattle.train.specs.Gradient.{gradientOf, Moderate}
 use Rattle.train.specs.Refusal.{_gives_}
 use Rattle.train.proofs.Judging.{Settles, settled}
 use Rattle.sheet_line.specs.Line.{Line, rises, moderate, countRules, stretchRules, signalRules}
+use Rattle.sheet_line.specs.Records.{Decides}
 use Rattle.sheet.specs.Sheet.{lineOf, headerRules, keeps, accepted}
 use Rattle.sheet.specs.Headed.{Headed}
 use Rattle.sheet.specs.Kept.{Kept, IsSheet, sheetRule}
@@ -87,12 +89,12 @@ pub headed-of : (s : List ℕ) → accepted s ≡ true → Headed s × Kept (lin
 unfolding accepted
 headed-of s h =
     let (a, (b, (c, (d, (e, (f, z)))))) = each-of (headerRules s ++ (keeps (lineOf s) ∷ [])) h in
-    (record { room = leb-true _ _ a; stretches = eqb-true _ _ b; signals = eqb-true _ _ c; whole = eqb-true _ _ d; lent = eqb-true _ _ e }, kept-of (lineOf s) f)
+    (record { room = leb-true _ _ a; stretches = eqb-true _ _ b; signals = eqb-true _ _ c; whole = eqb-true _ _ d; lent = eqb-true (length s) _ e }, kept-of (lineOf s) f)
 
 pub accepted-is : (s : List ℕ) → Headed s → accepted s ≡ keeps (lineOf s)
 unfolding accepted allHold
 accepted-is s h =
-    rw (le-leb _ _ (h .room), eq-eqb _ _ (h .stretches), eq-eqb _ _ (h .signals), eq-eqb _ _ (h .whole), eq-eqb _ _ (h .lent)) (and-true (keeps (lineOf s)))
+    rw (le-leb _ _ (h .room), eq-eqb _ _ (h .stretches), eq-eqb _ _ (h .signals), eq-eqb _ _ (h .whole), eq-eqb (length s) _ (h .lent)) (and-true (keeps (lineOf s)))
 
 -- so the bytes that are accepted are the sheets
 pub sheet-of : (s : List ℕ) → accepted s ≡ true → IsSheet s
@@ -100,6 +102,9 @@ sheet-of s h = let (a, b) = headed-of s h in record { header = a; line = b }
 
 pub sheet-is : (s : List ℕ) → IsSheet s → accepted s ≡ true
 sheet-is s h = accepted-is s (h .header) ∙ keeps-of (lineOf s) (h .line)
+
+pub sheet-decides : (s : List ℕ) → Decides (accepted s) (IsSheet s)
+sheet-decides s = record { yes = sheet-of s; no = λ e h. false≢true (sym e ∙ sheet-is s h) }
 
 pub sheet-settles : (s : List ℕ) → Settles (sheetRule s) (not (accepted s) gives 7 ∷ [])
 sheet-settles s = settled (sheetRule s) tt (not (accepted s)) (λ e. sheet-of s (not-false _ e)) (λ e h. false≢true (sym (not-true _ e) ∙ sheet-is s h))

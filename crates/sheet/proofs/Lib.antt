@@ -3,3 +3,4 @@ pub mod Kept
 pub mod RoundTrip
 pub mod Writable
 mod Example
+pub mod Kth

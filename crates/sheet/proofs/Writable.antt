@@ -1,20 +1,18 @@
 -- Fields that can be written: their lists are paired and the line keeps the rules; and what is written of them reads back.
-use mathlib.Core.Path.{_≡_}
-use mathlib.Core.Bool.{true}
-use borrow.Author.Tests.{eq-eqb, eqb-true}
+use mathlib.Core.Path.{_≡_, sym, _∙_}
+use mathlib.Core.Bool.{true, not, false≢true}
+use mathlib.Core.List.{[], _∷_}
+use borrow.Author.Tests.{eq-eqb, eqb-true, not-true, not-false}
 use lib.Dec.{eqb}
 use lib.ListN.{length}
 use Rattle.lists.proofs.Holding.{and-left, and-right}
+use Rattle.train.specs.Refusal.{_gives_}
+use Rattle.train.specs.Judged.{_keeps_}
+use Rattle.train.proofs.Judging.{Settles, settled}
 use Rattle.sheet.specs.Sheet.{accepted}
-use Rattle.sheet.specs.Fields.{Fields, listed, writable, sheetOf, fieldsOf}
-use Rattle.sheet.specs.Kept.{Kept}
+use Rattle.sheet.specs.Fields.{Fields, listed, writable, Writable, sheetOf, fieldsOf}
 use Rattle.sheet.proofs.Kept.{kept-of, keeps-of}
 use Rattle.sheet.proofs.RoundTrip.{accepted-again, write-read}
-
-pub record Writable (f : Fields) : Type 0 where
-  pub stretches : length (f .gradients) ≡ length (f .starts)
-  pub signals : length (f .overlaps) ≡ length (f .places)
-  pub kept : Kept (listed f)
 
 pub writable-at : (f : Fields) → writable f ≡ true → Writable f
 unfolding writable
@@ -27,6 +25,10 @@ writable-at f h =
 pub writable-of : (f : Fields) → Writable f → writable f ≡ true
 unfolding writable
 writable-of f w = rw (eq-eqb _ _ (w .stretches), eq-eqb _ _ (w .signals)) (keeps-of (listed f) (w .kept))
+
+-- else refusal 7
+pub writable-settles : (f : Fields) → Settles (7 keeps Writable f) (not (writable f) gives 7 ∷ [])
+writable-settles f = settled (7 keeps Writable f) tt (not (writable f)) (λ e. writable-at f (not-false _ e)) (λ e h. false≢true (sym (not-true _ e) ∙ writable-of f h))
 
 pub written-sheet : (f : Fields) → writable f ≡ true → accepted (sheetOf f) ≡ true
 written-sheet f h = accepted-again (listed f) (writable-at f h .kept)

@@ -6,19 +6,19 @@ use Rattle.train.specs.Gradient.{gradientOf, Moderate}
 use Rattle.sheet_line.specs.declared.Table.{Table}
 use Rattle.sheet_line.specs.declared.Table.the-variants.{Stretches, Signals}
 use Rattle.sheet_line.specs.Bytes.{signed}
-use Rattle.sheet_line.specs.Line.{mostStretches, mostSignals, farthestEnd}
 
 -- b says whether P holds
 pub record Decides (b : Bool) (P : Type 0) : Type 0 where
   pub yes : b ≡ true → P
   pub no : b ≡ false → P → ⊥
 
+-- 1 to 512 stretches, at most 64 signals, a line end of 1 to 500,000
 pub record Counts (n m end : ℕ) : Type 0 where
   pub some : 1 ≤ n
-  pub stretches : n ≤ mostStretches
-  pub signals : m ≤ mostSignals
+  pub stretches : n ≤ 512
+  pub signals : m ≤ 64
   pub begins : 1 ≤ end
-  pub ends : end ≤ farthestEnd
+  pub ends : end ≤ 500000
 
 -- what a record of x metres and the two bytes y keeps by itself
 abbrev pub KeepsItself : Table → ℕ → ℕ → ℕ → Type 0

@@ -1,12 +1,20 @@
 -- Document 01, "Line sheet" and "What is turned away": what a stretch or a signal by number answers.
+use mathlib.Core.Path.{_≡_}
 use mathlib.Core.Bool.{not, cond}
 use mathlib.Core.List.{List, [], _∷_}
-use Prim.Native.Nat.{ℕ}
+use Prim.Native.Nat.{ℕ, _<_}
 use lib.Dec.{leb, eqb}
 use lib.IntN.{pos}
+use lib.ListN.{length}
 use Rattle.train.specs.Units.{metres}
+use Rattle.train.specs.Gradient.{gradientOf}
 use Rattle.train.specs.Refusal.{Refusal, _gives_, firstOf}
+use Rattle.train.specs.Judged.{_keeps_, Judged}
+use Rattle.train.specs.Lent.{NoneLent}
 use Rattle.sheet.specs.Sheet.{lineOf, accepted}
+use Rattle.sheet.specs.Fields.{fieldsOf, KthStretch, KthSignal}
+use Rattle.sheet.specs.Kept.{sheetRule}
+use Rattle.sheet_mark.specs.Answer.{Again}
 use Rattle.sheet_lookup.specs.declared.Stretch.{Stretch}
 use Rattle.sheet_lookup.specs.declared.Signal.{Signal}
 
@@ -26,3 +34,18 @@ signalOf s k =
     let l = lineOf s in
     let refusal = firstOf (readRefusals s (l .signals) k) in
     cond (eqb refusal 0) (record { refusal = 0; place = metres (l .place k); overlap = metres (l .overlap k) }) (record { refusal = refusal; place = metres 0; overlap = metres 0 })
+
+-- what a read promises: its answer, the first demand, refusal 7 just for what is no sheet and 8 just for a number that is not below the count, and the places of that number
+pub record StretchAnswers (s : List ℕ) (k : ℕ) (r : Stretch) : Type 0 where
+  pub answer : r ≡ stretchOf s k
+  pub lent : NoneLent (r .refusal) (r .start .0 ∷ gradientOf (r .gradient) .rise ∷ gradientOf (r .gradient) .fall ∷ [])
+  pub spans : Judged (sheetRule s ∷ 8 keeps (k < length (fieldsOf s .starts)) ∷ []) (r .refusal)
+  pub again : Again s (r .refusal)
+  pub read : r .refusal ≡ 0 → KthStretch s k (r .start .0) (r .gradient)
+
+pub record SignalAnswers (s : List ℕ) (k : ℕ) (r : Signal) : Type 0 where
+  pub answer : r ≡ signalOf s k
+  pub lent : NoneLent (r .refusal) (r .place .0 ∷ r .overlap .0 ∷ [])
+  pub spans : Judged (sheetRule s ∷ 8 keeps (k < length (fieldsOf s .places)) ∷ []) (r .refusal)
+  pub again : Again s (r .refusal)
+  pub read : r .refusal ≡ 0 → KthSignal s k (r .place .0) (r .overlap .0)

@@ -1,9 +1,7 @@
 // A stretch or a signal of a line sheet, by its number. Document 01, "Line sheet".
 // Takes: `sheet`, `sheet_fields`, and for its contract `sheet_mark`. Gives: the operations `read_stretch`, `read_signal`, also to
 // `query_way`.
-ghost use mathlib.Core.Path.{_≡_};
-ghost use Rattle.sheet_mark.specs.Answer.{Again};
-ghost use Rattle.sheet_lookup.specs.Answer.{stretchOf, signalOf};
+ghost use Rattle.sheet_lookup.specs.Answer.{StretchAnswers, SignalAnswers};
 use train::Metre;
 
 pub mod opened;
@@ -26,7 +24,7 @@ pub struct Signal {
 
 // The stretch of that number, from 0.
 pub fn read_stretch(s: &[u8], number: u32) -> Stretch
-    ensures { λ r. ⌜ (r ≡ stretchOf (now (s .entry)) number) × Again (now (s .entry)) (r .refusal) ⌝ }
+    ensures { λ r. ⌜ StretchAnswers (now (s .entry)) number r ⌝ }
 {
     if !sheet::check::accepts(s) {
         return Stretch {
@@ -40,7 +38,7 @@ pub fn read_stretch(s: &[u8], number: u32) -> Stretch
 
 // The signal of that number, from 0.
 pub fn read_signal(s: &[u8], number: u32) -> Signal
-    ensures { λ r. ⌜ (r ≡ signalOf (now (s .entry)) number) × Again (now (s .entry)) (r .refusal) ⌝ }
+    ensures { λ r. ⌜ SignalAnswers (now (s .entry)) number r ⌝ }
 {
     if !sheet::check::accepts(s) {
         return Signal {

@@ -1,8 +1,8 @@
 -- The mark along an accepted sheet: n moves from a fresh one give the stretches 0 to n - 1 in order, then "end" for ever.
-use mathlib.Core.Path.{_≡_, refl, ap, _∙_}
+use mathlib.Core.Path.{_≡_, refl, sym, ap, subst, _∙_}
 use mathlib.Core.Bool.{true}
 use mathlib.Core.List.{List}
-use mathlib.Core.Logic.{⊎-elim}
+use mathlib.Core.Logic.{_⊎_, inl, inr, ⊎-elim}
 use Prim.Native.Nat.{ℕ, zero, suc, _≤_, _<_}
 use native.Mathlib.Omega.{arith}
 use native.Mathlib.Numerals.{add-one}
@@ -10,15 +10,16 @@ use borrow.Author.Tests.{lt-ltb, le-ltb}
 use Rattle.lists.proofs.Split.{below}
 use Rattle.sheet_line.specs.Line.{Line}
 use Rattle.sheet.specs.Sheet.{lineOf, accepted}
+use Rattle.sheet.proofs.Kth.{stretch-count, kth-stretch}
 use Rattle.sheet_mark.specs.declared.Mark.{Mark}
 use Rattle.sheet_mark.specs.declared.Move.{Move}
-use Rattle.sheet_mark.specs.Answer.{stepOn, stepOff, stepOf, moveOf, afterMoves}
+use Rattle.sheet_mark.specs.Answer.{stepOn, stepOff, stepOf, moveOf, afterMoves, Moves}
 
 -- a step before the end, and at it
 pub step-on : (l : Line) (m : Mark) → m .next < l .stretches → stepOf l m ≡ stepOn l m
 step-on l m h = simp (lt-ltb (m .next) (l .stretches) h)
 
-step-off : (l : Line) (m : Mark) → l .stretches ≤ m .next → stepOf l m ≡ stepOff m
+pub step-off : (l : Line) (m : Mark) → l .stretches ≤ m .next → stepOf l m ≡ stepOff m
 step-off l m h = simp (le-ltb (m .next) (l .stretches) h)
 
 -- and which it was
@@ -41,6 +42,15 @@ module _ (s : List ℕ) (sheet : accepted s ≡ true) where
   unfolding moveOf
   stays m h = simp sheet (step-off (lineOf s) m h)
 
+  -- so a move gives the stretch that the mark stands before, or the end
+  pub moves : (m : Mark) → Moves s (m .next) m (moveOf s m)
+  moves m =
+      let n = stretch-count s in
+      ⊎-elim
+      (λ l. rw (move-on m l) (record { on = λ h. record { more = refl; fields = kth-stretch s (m .next) l; behind = refl }; off = λ h. absurd (omega arith) }))
+      (λ l. rw (stays m l) (record { on = λ h. absurd (omega arith); off = λ h. record { told = refl; same = refl } }))
+      (below (m .next) (lineOf s .stretches))
+
   before : (k : ℕ) → k ≤ lineOf s .stretches → afterMoves s k ≡ at k
   unfolding afterMoves
   before zero h = refl
@@ -55,8 +65,19 @@ module _ (s : List ℕ) (sheet : accepted s ≡ true) where
       (λ l. ap (λ m. moveOf s m .mark) (behind k l) ∙ ap (λ (r : Move). r .mark) (stays (at (lineOf s .stretches)) (omega arith)))
       (below k (lineOf s .stretches))
 
-  pub in-order : (k : ℕ) → k < lineOf s .stretches → moveOf s (afterMoves s k) ≡ stepOn (lineOf s) (at k)
-  in-order k h = ap (moveOf s) (before k (omega arith)) ∙ move-on (at k) h
+  -- after k moves the mark stands before stretch k, or both are at the end
+  stands : (k : ℕ) → (afterMoves s k .next ≡ k) ⊎ ((lineOf s .stretches ≤ k) × (lineOf s .stretches ≤ afterMoves s k .next))
+  stands k =
+      ⊎-elim
+      (λ l. inl (ap (λ (m : Mark). m .next) (before k (omega arith))))
+      (λ l. inr (l, let e = ap (λ (m : Mark). m .next) (behind k l) in omega arith))
+      (below k (lineOf s .stretches))
 
-  pub for-ever : (k : ℕ) → lineOf s .stretches ≤ k → moveOf s (afterMoves s k) ≡ stepOff (afterMoves s k)
-  for-ever k h = stays (afterMoves s k) (rw (behind k h) (omega arith))
+  pub moves-in-order : (k : ℕ) → Moves s k (afterMoves s k) (moveOf s (afterMoves s k))
+  moves-in-order k =
+      let n = stretch-count s in
+      let a = moves (afterMoves s k) in
+      ⊎-elim
+      (λ e. subst (λ (i : ℕ). Moves s i (afterMoves s k) (moveOf s (afterMoves s k))) e a)
+      (λ (l, i). record { on = λ h. absurd (omega arith); off = λ h. a .off (omega arith) })
+      (stands k)

@@ -1,14 +1,19 @@
 -- Document 01, "Line sheet" and "What is turned away": what a move of the reading mark answers.
 use mathlib.Core.Path.{_≡_}
 use mathlib.Core.Bool.{cond}
-use mathlib.Core.List.{List}
-use Prim.Native.Nat.{ℕ, zero, suc, _+_}
+use mathlib.Core.List.{List, [], _∷_}
+use Prim.Native.Nat.{ℕ, zero, suc, _+_, _≤_, _<_}
 use lib.Dec.{ltb}
 use lib.IntN.{pos}
+use lib.ListN.{length}
 use Rattle.train.specs.Units.{metres}
+use Rattle.train.specs.Gradient.{gradientOf}
+use Rattle.train.specs.Judged.{Judged}
+use Rattle.train.specs.Lent.{NoneLent}
 use Rattle.sheet_line.specs.Line.{Line}
 use Rattle.sheet.specs.Sheet.{lineOf, accepted}
-use Rattle.sheet.specs.Fields.{sheetOf, fieldsOf}
+use Rattle.sheet.specs.Fields.{sheetOf, fieldsOf, KthStretch}
+use Rattle.sheet.specs.Kept.{sheetRule}
 use Rattle.sheet_mark.specs.declared.Mark.{Mark}
 use Rattle.sheet_mark.specs.declared.Move.{Move}
 
@@ -37,3 +42,28 @@ pub record Again (s : List ℕ) (refusal : ℕ) : Type 0 where
 unfoldable pub afterMoves : List ℕ → ℕ → Mark
 afterMoves s zero = fresh
 afterMoves s (suc k) = moveOf s (afterMoves s k) .mark
+
+-- the k-th stretch's fields, and the mark behind it
+pub record OneOn (s : List ℕ) (k : ℕ) (r : Move) : Type 0 where
+  pub more : r .end ≡ 0
+  pub fields : KthStretch s k (r .start .0) (r .gradient)
+  pub behind : r .mark .next ≡ k + 1
+
+-- "end", and the mark stays
+pub record Ended (m : Mark) (r : Move) : Type 0 where
+  pub told : r .end ≡ 1
+  pub same : r .mark ≡ m
+
+-- a move where k stretches lie behind the mark
+pub record Moves (s : List ℕ) (k : ℕ) (m : Mark) (r : Move) : Type 0 where
+  pub on : k < length (fieldsOf s .starts) → OneOn s k r
+  pub off : length (fieldsOf s .starts) ≤ k → Ended m r
+
+-- what a move promises: its answer, the first demand, refusal 7 just for what is no sheet, the stretch that the mark stands before, and stretch k after k moves from a fresh mark
+pub record MoveAnswers (s : List ℕ) (m : Mark) (r : Move) : Type 0 where
+  pub answer : r ≡ moveOf s m
+  pub lent : NoneLent (r .refusal) (r .end ∷ r .start .0 ∷ gradientOf (r .gradient) .rise ∷ gradientOf (r .gradient) .fall ∷ r .mark .next ∷ [])
+  pub spans : Judged (sheetRule s ∷ []) (r .refusal)
+  pub again : Again s (r .refusal)
+  pub next : r .refusal ≡ 0 → Moves s (m .next) m r
+  pub inOrder : r .refusal ≡ 0 → (k : ℕ) → m ≡ afterMoves s k → Moves s k m r

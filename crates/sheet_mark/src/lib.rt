@@ -3,7 +3,7 @@
 ghost use mathlib.Core.Path.{_≡_};
 ghost use mathlib.Core.Bool.{true};
 ghost use Rattle.sheet.specs.Sheet.{lineOf, accepted};
-ghost use Rattle.sheet_mark.specs.Answer.{fresh, stepOf, moveOf, Again};
+ghost use Rattle.sheet_mark.specs.Answer.{fresh, stepOf, MoveAnswers};
 use train::Metre;
 
 // Where the reading stands: before the stretch of that number. Any number is taken.
@@ -25,7 +25,7 @@ pub struct Move {
 impl Mark {
     // Before stretch 0.
     pub fn fresh() -> Mark
-        ensures { λ r. ⌜ r ≡ fresh ⌝ }
+        ensures { λ r. ⌜ (r ≡ fresh) × (r .next ≡ 0) ⌝ }
     {
         Mark { next: 0 }
     }
@@ -57,7 +57,7 @@ impl Mark {
 
     // A move along any bytes.
     pub fn moved(self, s: &[u8]) -> Move
-        ensures { λ r. ⌜ (r ≡ moveOf (now (s .entry)) self) × Again (now (s .entry)) (r .refusal) ⌝ }
+        ensures { λ r. ⌜ MoveAnswers (now (s .entry)) self r ⌝ }
     {
         if !sheet::check::accepts(s) {
             return Move {

@@ -1,14 +1,17 @@
 -- Document 01, "Line sheet" and "What is turned away": what the writer answers, and the lent buffer afterwards.
 use mathlib.Core.Path.{_≡_}
-use mathlib.Core.Bool.{true, not, cond}
+use mathlib.Core.Bool.{not, cond}
 use mathlib.Core.List.{List, [], _∷_, _++_}
-use Prim.Native.Nat.{ℕ}
+use Prim.Native.Nat.{ℕ, _+_, _*_, _≤_}
 use lib.Dec.{ltb, eqb}
 use lib.ListN.{length, take, drop}
 use Rattle.train.specs.declared.Written.{Written}
 use Rattle.train.specs.Refusal.{Refusal, _gives_, firstOf}
-use Rattle.sheet.specs.Sheet.{sheetLength, accepted}
-use Rattle.sheet.specs.Fields.{Fields, writable, sheetOf, fieldsOf}
+use Rattle.train.specs.Judged.{_keeps_, Judged}
+use Rattle.train.specs.Lent.{FirstDemand}
+use Rattle.sheet.specs.Sheet.{sheetLength}
+use Rattle.sheet.specs.Fields.{Fields, writable, Writable, sheetOf, fieldsOf}
+use Rattle.sheet.specs.Kept.{IsSheet}
 
 module _ (f : Fields) where
   abbrev pub size : ℕ
@@ -25,9 +28,13 @@ module _ (f : Fields) where
   unfoldable pub bufferAfter : List ℕ → List ℕ
   bufferAfter lent = cond (eqb (firstOf (writeRefusals (length lent))) 0) (sheetOf f ++ drop size lent) lent
 
-  -- what the writer promises: its answer, the whole buffer afterwards, and that what was written is a sheet which reads back as its fields
-  pub record Writes (lent : List ℕ) (r : Written) (after : List ℕ) : Type 0 where
-    pub answer : r ≡ writeOf (length lent)
-    pub memory : after ≡ bufferAfter lent
-    pub sheet : r .refusal ≡ 0 → accepted (take (r .length) after) ≡ true
+  -- what the writer promises: its answer, the whole buffer afterwards, the first demand, refusal 7 just for a broken rule and 11 just for a buffer too short, how long the sheet is,
+  -- and that what was written is a sheet which reads back as its fields
+  pub record Writes (before : List ℕ) (r : Written) (after : List ℕ) : Type 0 where
+    pub answer : r ≡ writeOf (length before)
+    pub memory : after ≡ bufferAfter before
+    pub lent : FirstDemand (r .refusal) (r .length ∷ []) before after (r .length)
+    pub spans : Judged (7 keeps Writable f ∷ 11 keeps (20 + 6 * length (f .starts) + 6 * length (f .places) ≤ length before) ∷ []) (r .refusal)
+    pub long : r .refusal ≡ 0 → r .length ≡ 20 + 6 * length (f .starts) + 6 * length (f .places)
+    pub sheet : r .refusal ≡ 0 → IsSheet (take (r .length) after)
     pub back : r .refusal ≡ 0 → fieldsOf (take (r .length) after) ≡ f

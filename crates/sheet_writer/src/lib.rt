@@ -31,8 +31,9 @@ pub fn write(
         };
     }
     sheet_bytes::whole(starts, gradients, places, overlaps, last, sheet);
+    let written = length as u32;
     Written {
         refusal: 0,
-        length: length as u32,
+        length: written,
     }
 }

@@ -19,7 +19,7 @@ held : (c : tie.Else1) → let r = c .before .before .before in let a = r .befor
 held c =
     let r = c .before .before .before in
     let a = r .before .before .args in
-    let e = r .read-signal .ensures .0 in
+    let e = r .read-signal .ensures .answer in
     subst (IsSignal (now (a .s)) (a .signal)) (sym e) (read-signal (now (a .s)) (a .signal) (omega (arith, c .if1 .left, ap (λ (x : Signal). x .refusal) e)))
 
 -- it stands on the line, not before the head
@@ -38,7 +38,7 @@ returns : tie.Need-returns
 returns c =
     let r = c .before .before .before in
     let a = r .before .before .args in
-    let e = unread (now (a .s)) (a .signal) (a .head .0) _ (sym (ap (λ (x : Signal). x .refusal) (r .read-signal .ensures .0))) (c .if1 .taken) in
+    let e = unread (now (a .s)) (a .signal) (a .head .0) _ (sym (ap (λ (x : Signal). x .refusal) (r .read-signal .ensures .answer))) (c .if1 .taken) in
     record { refused = e; spans = told (way-judges (now (a .s)) (a .signal) (a .head .0)) (sym e) .1; says = c .if1 .taken }
 
 returns-2 : tie.Need-returns-2

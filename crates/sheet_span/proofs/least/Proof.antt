@@ -38,7 +38,7 @@ fresh-requires c κs = search needs
 loop-holds : tie.Need-loop-holds Inv-loop μ-loop
 loop-holds c =
     let b = c .before .before in
-    rw (c .fresh .ensures) (passed-none (lineOf (now (b .args .s))) (kept _ (b .pre .0)) (b .args .from .0) (b .args .to .0) (b .pre .1) (b .pre .2))
+    rw (c .fresh .ensures .0) (passed-none (lineOf (now (b .args .s))) (kept _ (b .pre .0)) (b .args .from .0) (b .args .to .0) (b .pre .1) (b .pre .2))
 
 step-requires : tie.Need-step-requires Inv-loop μ-loop
 step-requires c κs = c .before .before .before .pre .0

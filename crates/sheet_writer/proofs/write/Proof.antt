@@ -5,8 +5,8 @@ use denote.Ref.{now}
 use mathlib.Core.Bool.{true}
 use mathlib.Core.Path.{_≡_, sym, _∙_}
 use native.Mathlib.Omega.{arith}
-use Rattle.sheet.specs.Fields.{Fields, writable}
-use Rattle.sheet.proofs.Writable.{Writable, writable-at}
+use Rattle.sheet.specs.Fields.{Fields, writable, Writable}
+use Rattle.sheet.proofs.Writable.{writable-at}
 use Rattle.sheet_writer.proofs.Answers.{broken, no-room, written}
 use Rattle.sheet_writer.proofs.write.Statement.{statement}
 use Rattle.sheet_writer.proofs.write.Tie as tie
@@ -42,10 +42,10 @@ returns-2 : tie.Need-returns-2
 returns-2 c = no-room (given (c .before)) _ (held (c .before)) (omega (arith, c .if2 .taken))
 
 whole-requires : tie.Need-whole-requires
-whole-requires c κs = (held (c .before .before), c .before .if2 .left)
+whole-requires c κs = (held (c .before .before), omega (arith, c .before .if2 .left))
 
-cast-t19 : tie.Need-cast-t19
-cast-t19 c = let k = right (c .before .before .before .before .before) .kept .counts in omega (arith, k .stretches, k .signals)
+cast-written : tie.Need-cast-written
+cast-written c = let k = right (c .before .before .before .before .before) .kept .counts in omega (arith, k .stretches, k .signals)
 
 same-length : tie.Need-same-length
 same-length c = search needs
@@ -65,6 +65,6 @@ write-spec =
     add-length-2
     returns-2
     whole-requires
-    cast-t19
+    cast-written
     same-length
     returns-3)
