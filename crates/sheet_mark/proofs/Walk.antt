@@ -48,7 +48,7 @@ module _ (s : List ℕ) (sheet : accepted s ≡ true) where
       let n = stretch-count s in
       ⊎-elim
       (λ l. rw (move-on m l) (record { on = λ h. record { more = refl; fields = kth-stretch s (m .next) l; behind = refl }; off = λ h. absurd (omega arith) }))
-      (λ l. rw (stays m l) (record { on = λ h. absurd (omega arith); off = λ h. record { told = refl; same = refl } }))
+      (λ l. rw (stays m l) (record { on = λ h. absurd (omega arith); off = λ h. record { told = refl; zeros = (refl, (refl, (refl, tt))); same = refl } }))
       (below (m .next) (lineOf s .stretches))
 
   before : (k : ℕ) → k ≤ lineOf s .stretches → afterMoves s k ≡ at k

@@ -9,7 +9,7 @@ use lib.ListN.{length}
 use Rattle.train.specs.Units.{metres}
 use Rattle.train.specs.Gradient.{gradientOf}
 use Rattle.train.specs.Judged.{Judged}
-use Rattle.train.specs.Lent.{NoneLent}
+use Rattle.train.specs.Lent.{Zeros, NoneLent}
 use Rattle.sheet_line.specs.Line.{Line}
 use Rattle.sheet.specs.Sheet.{lineOf, accepted}
 use Rattle.sheet.specs.Fields.{sheetOf, fieldsOf, KthStretch}
@@ -49,9 +49,10 @@ pub record OneOn (s : List ℕ) (k : ℕ) (r : Move) : Type 0 where
   pub fields : KthStretch s k (r .start .0) (r .gradient)
   pub behind : r .mark .next ≡ k + 1
 
--- "end", and the mark stays
+-- "end", zeros beside it, and the mark stays
 pub record Ended (m : Mark) (r : Move) : Type 0 where
   pub told : r .end ≡ 1
+  pub zeros : Zeros (r .start .0 ∷ gradientOf (r .gradient) .rise ∷ gradientOf (r .gradient) .fall ∷ [])
   pub same : r .mark ≡ m
 
 -- a move where k stretches lie behind the mark
