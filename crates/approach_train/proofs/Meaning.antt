@@ -1,6 +1,6 @@
--- What the two bytes mean by the definition: 0 is no, each other byte yes.
+-- What C's record means by the definition: of its two bytes 0 is no and each other yes; its numbers are the train's.
 use mathlib.Core.Bool.{true, cond}
-use mathlib.Core.Path.{_≡_, ap, sym, subst}
+use mathlib.Core.Path.{_≡_, refl, ap, sym, subst}
 use Prim.Native.Nat.{ℕ, _<_}
 use native.Mathlib.Omega.{arith}
 use borrow.Author.Tests.{lt-ltb}
@@ -19,6 +19,9 @@ meant t =
       freight = λ h. ap (λ b. cond b Freight Passenger) (is-yes (t .freight) h);
       off = λ e. ap yes e;
       working = λ h. is-yes (t .electropneumatic) h;
+      weight = refl;
+      length = refl;
+      top = refl;
     }
 
 pub as-meant : (t : Entered) (r : Train) → r ≡ trainOf t → (r ≡ trainOf t) × Meant t r

@@ -16,9 +16,12 @@ abbrev pub trainOf : Entered → Train
 trainOf t =
     record { brake = cond (yes (t .freight)) Freight Passenger; electropneumatic = yes (t .electropneumatic); weight = t .weight; length = metres (t .length); top = kmh (t .top) }
 
--- the two bytes once more, in words of their own: what 0 means, and what each of the other 255
+-- the record once more, in words of its own: what 0 means, and what each of the other 255 bytes; its numbers as they are
 pub record Meant (t : Entered) (r : Train) : Type 0 where
   pub passenger : t .freight ≡ 0 → r .brake ≡ Passenger
   pub freight : 0 < t .freight → r .brake ≡ Freight
   pub off : t .electropneumatic ≡ 0 → r .electropneumatic ≡ false
   pub working : 0 < t .electropneumatic → r .electropneumatic ≡ true
+  pub weight : r .weight ≡ t .weight
+  pub length : r .length .0 ≡ t .length
+  pub top : r .top .0 ≡ t .top
