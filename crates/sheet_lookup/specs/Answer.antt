@@ -35,7 +35,8 @@ signalOf s k =
     let refusal = firstOf (readRefusals s (l .signals) k) in
     cond (eqb refusal 0) (record { refusal = 0; place = metres (l .place k); overlap = metres (l .overlap k) }) (record { refusal = refusal; place = metres 0; overlap = metres 0 })
 
--- what a read promises: its answer, the first demand, refusal 7 just for what is no sheet and 8 just for a number that is not below the count, and the places of that number
+-- what a read promises: its answer, the first demand, what is turned away, that the sheet's fields write its bytes, and that it gives
+-- the places of its number
 pub record StretchAnswers (s : List ℕ) (k : ℕ) (r : Stretch) : Type 0 where
   pub answer : r ≡ stretchOf s k
   pub lent : NoneLent (r .refusal) (r .start .0 ∷ gradientOf (r .gradient) .rise ∷ gradientOf (r .gradient) .fall ∷ [])

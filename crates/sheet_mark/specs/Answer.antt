@@ -60,7 +60,8 @@ pub record Moves (s : List ℕ) (k : ℕ) (m : Mark) (r : Move) : Type 0 where
   pub on : k < length (fieldsOf s .starts) → OneOn s k r
   pub off : length (fieldsOf s .starts) ≤ k → Ended m r
 
--- what a move promises: its answer, the first demand, refusal 7 just for what is no sheet, the stretch that the mark stands before, and stretch k after k moves from a fresh mark
+-- what a move promises: its answer, the first demand, what is turned away, that the sheet's fields write its bytes, the stretch that the
+-- mark stands before, and stretch k after k moves from a fresh one
 pub record MoveAnswers (s : List ℕ) (m : Mark) (r : Move) : Type 0 where
   pub answer : r ≡ moveOf s m
   pub lent : NoneLent (r .refusal) (r .end ∷ r .start .0 ∷ gradientOf (r .gradient) .rise ∷ gradientOf (r .gradient) .fall ∷ r .mark .next ∷ [])

@@ -28,7 +28,7 @@ module _ (f : Fields) where
   unfoldable pub bufferAfter : List ℕ → List ℕ
   bufferAfter lent = cond (eqb (firstOf (writeRefusals (length lent))) 0) (sheetOf f ++ drop size lent) lent
 
-  -- what the writer promises: its answer, the whole buffer afterwards, the first demand, refusal 7 just for a broken rule and 11 just for a buffer too short, how long the sheet is,
+  -- what the writer promises: its answer, the whole buffer afterwards, the first demand, what is turned away, how long the sheet is,
   -- and that what was written is a sheet which reads back as its fields
   pub record Writes (before : List ℕ) (r : Written) (after : List ℕ) : Type 0 where
     pub answer : r ≡ writeOf (length before)

@@ -1,4 +1,4 @@
--- Document 01, "What is turned away", in words of its own: what the inputs of an accepted call keep, and what those of a refused one break.
+-- Document 01, "What is turned away", in words of its own: what the inputs of an accepted call keep, and what a refused one's break.
 use mathlib.Core.Path.{_≡_}
 use mathlib.Core.List.{List, [], _∷_}
 use mathlib.Core.Logic.{_⊎_}

@@ -1,5 +1,6 @@
 // The train, the line's gradient and document 002's coefficients, in the units that every model takes and returns.
-// Takes: `exact`. Gives: units, `Train`, `Coefficients` and refusals 1, 2, 3 and 5, to every model above.
+// Takes: `exact`. Gives: units, `Train`, `Coefficients` and refusals 1, 2, 3 and 5, to every model above; what every contract says of
+// refusals and of lent memory (specs/Judged.antt, Lent.antt).
 ghost use mathlib.Core.Path.{_≡_};
 ghost use Rattle.train.specs.Coefficients.{first};
 
