@@ -105,28 +105,28 @@ pub extern "C" fn approach_sheet_write(
     line_end: u32,
     sheet: &mut [u8],
 ) -> Written
-    ensures { λ r. ⌜ Writes (fourLists (now (starts .entry)) (now (gradients .entry)) (now (places .entry)) (now (overlaps .entry)) «line_end») (now (sheet .entry)) r (now (sheet .exit)) ⌝ }
+    ensures { λ r. ⌜ Writes (fourLists (now (starts .entry)) (now (gradients .entry)) (now (places .entry)) (now (overlaps .entry)) «line_end») (fourLists (now (starts .exit)) (now (gradients .exit)) (now (places .exit)) (now (overlaps .exit)) «line_end») (now (sheet .entry)) r (now (sheet .exit)) ⌝ }
 {
     sheet_writer::write(starts, gradients, places, overlaps, Metre(line_end), sheet)
 }
 
 #[no_mangle]
 pub extern "C" fn approach_sheet_stretch(sheet: &[u8], number: u32) -> Stretch
-    ensures { λ r. ⌜ StretchAnswers (now (sheet .entry)) number r ⌝ }
+    ensures { λ r. ⌜ StretchAnswers (now (sheet .entry)) number r (now (sheet .exit)) ⌝ }
 {
     sheet_lookup::read_stretch(sheet, number)
 }
 
 #[no_mangle]
 pub extern "C" fn approach_sheet_signal(sheet: &[u8], number: u32) -> Signal
-    ensures { λ r. ⌜ SignalAnswers (now (sheet .entry)) number r ⌝ }
+    ensures { λ r. ⌜ SignalAnswers (now (sheet .entry)) number r (now (sheet .exit)) ⌝ }
 {
     sheet_lookup::read_signal(sheet, number)
 }
 
 #[no_mangle]
 pub extern "C" fn approach_sheet_next(sheet: &[u8], mark: Mark) -> Move
-    ensures { λ r. ⌜ MoveAnswers (now (sheet .entry)) mark r ⌝ }
+    ensures { λ r. ⌜ MoveAnswers (now (sheet .entry)) mark r (now (sheet .exit)) ⌝ }
 {
     mark.moved(sheet)
 }
@@ -140,7 +140,7 @@ pub extern "C" fn approach_query(
     signal: u32,
     head: u32,
 ) -> Answer
-    ensures { λ r. ⌜ QueryAnswers first (trainOf train) tm tr (now (sheet .entry)) signal head r ⌝ }
+    ensures { λ r. ⌜ QueryAnswers first (trainOf train) tm tr (now (sheet .entry)) signal head r (now (sheet .exit)) ⌝ }
 {
     query::query(train_of(train), tm, tr, sheet, signal, Metre(head))
 }

@@ -29,7 +29,7 @@ fn example_train() -> Train
 
 // Its answer with TM 2 s, TR 4 s and the head at 0.
 fn answer(s: &[u8], signal: u32) -> Answer
-    ensures { λ r. ⌜ QueryAnswers first exampleTrain 200 400 (now (s .entry)) signal 0 r ⌝ }
+    ensures { λ r. ⌜ QueryAnswers first exampleTrain 200 400 (now (s .entry)) signal 0 r (now (s .exit)) ⌝ }
 {
     query::query(example_train(), 200, 400, s, signal, Metre(0))
 }

@@ -26,6 +26,6 @@ module _ (v : Kmh) where
   ceilings-given l = record {
     answer = simp (le-ltb _ _ l);
     printed = λ z. as-printed v;
-    lent = given-demand _;
+    lent = given-demand _ [];
     spans = record { accepted = λ z. (omega arith, tt); refused = λ k. absurd (omega arith) };
   }

@@ -29,6 +29,8 @@ rows =
     gives (ep 100) 36 0 (negsuc 19) Ebi 309625
     -- K 1.1: di = -0.226611, Vβ = 10 + 0.226611 · 5.55 = 11.25769105; 5.55 Vβ + Vβ² / (2 · 0.217419) = 353.93495.. m
     ∷ gives (ep 100) 36 0 (negsuc 20) Ebi 353935
+    -- and its P: + 5.55 Vβ + 2 · 15 = 446.41513.. m
+    ∷ gives (ep 100) 36 0 (negsuc 20) P 446416
     -- K 0.90: di = 0.008829, Vβ = 10 - 0.008829 · 5.55 = 9.95099905; 5.55 Vβ + Vβ² / (2 · 0.452859) = 164.55830.. m
     ∷ gives (ep 100) 36 0 (pos 1) Ebi 164559
     -- over VC and the top speed: K0 = 1 - 0.05 · 72/180 = 0.98, dp = 0.4351494; 5.55 · 50 + (50² - 20²) / (2 · 0.4351494) = 2690.46437.. m
@@ -43,6 +45,13 @@ rows =
     ∷ gives (train Passenger false 100 200) 36 36 (pos 0) Ebi 63300
     -- the freight row is the larger: delay = 13.5 + 0.04 · 5² = 14.5, tf = 18.85; 19.85 · 10 = 198.5 m
     ∷ gives (freight 500) 36 36 (pos 0) Ebi 198500
+    -- the same to a stop: 198.5 + 10² / (2 · 0.44403) = 311.10500.. m
+    ∷ gives (freight 500) 36 0 (pos 0) Ebi 311106
+    -- BW 45, downhill, to 18 km/h: 0.57 · dr = 0.2292825, K0 = 0.975, di = -0.0981, Vβ = 10 + 0.0981 · 19.85 = 11.947285;
+    -- 19.85 Vβ + (Vβ² - 5²) / (2 · (0.2235504375 - 0.0981)) = 706.41310.. m
+    ∷ gives (train Freight false 45 500) 36 18 (negsuc 9) Ebi 706414
+    -- BW 160, brake not working: 0.57 · dr = 0.6783, tf = 5.33; 6.33 · 10 + 10² / (2 · 0.6783) + 6.33 · 10 + 2 · 15 = 230.31369.. m
+    ∷ gives (train Passenger false 160 200) 36 0 (pos 0) P 230314
     -- brake working: of 3.5 and 13.5 + 0.04 · 10² = 17.5 the larger, tf = 22.75; 23.75 · 10 = 237.5 m
     ∷ gives (train Freight true 100 1000) 36 36 (pos 0) Ebi 237500
     -- 0.57 · dr = 0.248805, di = -0.18639: dp + di = 0.248805 · (1 - 0.05 · 329/330) - 0.18639 = 0.05001.., and 0.04997475 where V0 = V;
@@ -55,9 +64,13 @@ rows =
     ∷ reaches (overrun 100 (gradientOf (pos 0)) (kmh 36) 200 400) (128044 over 7011) 110850
     -- at its stop before the brake acts, di = 0.309015, t = 5/18 / di = 500000/556227: 5/18 · t - di · t² / 2 = 0.12484.. m
     ∷ reaches (overrun 100 (gradientOf (pos 35)) (kmh 1) 2000 1) (500000 over 556227) 125
+    -- BW 60, downhill, dp = 0.9 · 0.505 = 0.4545, di = -0.226611: 10 · 4 + 0.226611 · 4²/2 - 0.4545 · 2³ / (6 · 4) = 41.661388 m,
+    -- and 10 · 10 + 0.226611 · 10²/2 - 0.4545 · (4²/6 + 2 · 4 + 4²/2) = 102.84655 m
+    ∷ reaches (overrun 60 (gradientOf (negsuc 20)) (kmh 36) 200 400) (4 over 1) 41662
+    ∷ reaches (overrun 60 (gradientOf (negsuc 20)) (kmh 36) 200 400) (10 over 1) 102847
     ∷ []
 
 pub worked : All first rows
 unfolding rows stepOf distance strong EBI SBI step.W step.P Vβ dp KC K0 T tf delay dr di factor speed raised placeAt motion.dp
 worked =
-    ((refl, refl), ((refl, refl), ((refl, refl), ((refl, refl), ((refl, refl), ((refl, refl), ((refl, refl), ((refl, refl), ((refl, refl), ((refl, refl), ((refl, refl), ((refl, refl), (refl, (refl, (refl, (refl, tt))))))))))))))))
+    ((refl, refl), ((refl, refl), ((refl, refl), ((refl, refl), ((refl, refl), ((refl, refl), ((refl, refl), ((refl, refl), ((refl, refl), ((refl, refl), ((refl, refl), ((refl, refl), ((refl, refl), ((refl, refl), ((refl, refl), ((refl, refl), (refl, (refl, (refl, (refl, (refl, (refl, tt))))))))))))))))))))))

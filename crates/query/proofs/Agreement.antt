@@ -57,5 +57,5 @@ module _ (k : Coefficients) (t : Train) (tm tr : ℕ) (s z : List ℕ) (i j head
     agreed = ⊎-elim same-beyond same-on-way (below (lineOf s .place i) head)
 
     -- so two calls do
-    pub same-answer : (r q : Answer) → QueryAnswers k t tm tr s i head r → QueryAnswers k t tm tr z j head q → r ≡ q
-    same-answer r q b c = b .answer ∙ agreed ∙ sym (c .answer)
+    pub same-answer : (r q : Answer) (x y : List ℕ) → QueryAnswers k t tm tr s i head r x → QueryAnswers k t tm tr z j head q y → r ≡ q
+    same-answer r q x y b c = b .answer ∙ agreed ∙ sym (c .answer)

@@ -96,7 +96,7 @@ module _ (t : Train) (tm tr : ℕ) (s : List ℕ) (signal head : ℕ) where
 
 module _ (k : Coefficients) (t : Train) (tm tr : ℕ) (s : List ℕ) (signal head : ℕ) where
   abbrev Answers : Answer → Type 0
-  Answers = QueryAnswers k t tm tr s signal head
+  Answers r = QueryAnswers k t tm tr s signal head r s
 
   pub inputs-rising : Rising 1 (inputs t tm tr s signal head)
   inputs-rising = rising-before 1 (inputs t tm tr s signal head) (brakeRefusals k t tm tr (wayTo s signal head)) (query-rising k t tm tr s signal head)
@@ -110,7 +110,7 @@ module _ (k : Coefficients) (t : Train) (tm tr : ℕ) (s : List ℕ) (signal hea
   refused-by n l e j =
       record {
         answer = rw (e, ne-eqb n 0 (λ i. omega arith));
-        lent = refused-demand n _ [] (refl, (refl, (refl, (refl, (refl, (refl, tt))))));
+        lent = refused-demand n _ s (refl, (refl, (refl, (refl, (refl, (refl, tt))))));
         spans = j;
         demand = λ z. absurd (let i : n ≡ 0 = z in omega arith);
         ceilings = λ z. absurd (let i : n ≡ 0 = z in omega arith);
@@ -150,7 +150,7 @@ module _ (k : Coefficients) (t : Train) (tm tr : ℕ) (s : List ℕ) (signal hea
         let P = permittedOf k t (w .ahead) (release k t tm tr w) (w .distance) in
         record {
           answer = rw (decides, a, b) refl;
-          lent = given-demand _;
+          lent = given-demand _ s;
           spans = by-brake 0 (record { accepted = λ i. ((w, (leads, both-strong k t tm tr w f within a b)), tt); refused = λ l. absurd (let j : 0 < 0 = l in omega arith) });
           demand = λ y. (w, (leads, d));
           ceilings = λ y. rw (le-ltb 330 P (omega arith)) (as-printed (kmh P));

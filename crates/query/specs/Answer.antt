@@ -10,7 +10,7 @@ use Rattle.train.specs.declared.Coefficients.{Coefficients}
 use Rattle.train.specs.Units.{kmh}
 use Rattle.train.specs.Refusal.{Refusal, _gives_, firstOf, trainRefusals}
 use Rattle.train.specs.Judged.{Judged}
-use Rattle.train.specs.Lent.{NoneLent}
+use Rattle.train.specs.Lent.{FirstDemand}
 use Rattle.step_braking.specs.Braking.{strong}
 use Rattle.ceilings.specs.Ceilings.{limitsOf}
 use Rattle.ceilings.specs.Paper.{AsPrinted}
@@ -61,9 +61,9 @@ module _ (k : Coefficients) (t : Train) (tm tr : ℕ) (s : List ℕ) (signal hea
 
   -- what the query promises: the answer by definition; the first demand; what is turned away; of every accepted answer the third
   -- demand on the way that the sheet says, and the paper's ceilings
-  pub record QueryAnswers (r : Answer) : Type 0 where
+  pub record QueryAnswers (r : Answer) (after : List ℕ) : Type 0 where
     pub answer : r ≡ answerOf
-    pub lent : NoneLent (r .refusal) (r .release .0 ∷ r .permitted .0 ∷ r .mark ∷ r .w .0 ∷ r .sbi .0 ∷ r .ebi .0 ∷ [])
+    pub lent : FirstDemand (r .refusal) (r .release .0 ∷ r .permitted .0 ∷ r .mark ∷ r .w .0 ∷ r .sbi .0 ∷ r .ebi .0 ∷ []) s after 0
     pub spans : Judged (queryRules k t tm tr s signal head) (r .refusal)
     pub demand : r .refusal ≡ 0 → On s signal head (λ w. Demand k t tm tr w (r .release .0) (r .permitted .0) (r .mark))
     pub ceilings : r .refusal ≡ 0 → AsPrinted (r .permitted) (record { refusal = 0; w = r .w; sbi = r .sbi; ebi = r .ebi })

@@ -8,7 +8,7 @@ use Rattle.train.specs.declared.Coefficients.{Coefficients}
 use Rattle.train.specs.Units.{kmh}
 use Rattle.ramp_motion.specs.declared.Overrun.{Overrun}
 use Rattle.ramp_motion.specs.Motion.{placeAt}
-use Rattle.ramp.specs.Answer.{overrun, leeway}
+use Rattle.ramp.specs.Answer.{overrun}
 use Rattle.step_curve.specs.Step.{P}
 use Rattle.query_way.specs.declared.Way.{Way}
 
@@ -19,7 +19,7 @@ pastAt t tm tr w v = overrun (t .weight) (w .past) (kmh v) tm tr
 module _ (k : Coefficients) (t : Train) (tm tr : ℕ) (w : Way) where
   -- in metres: the place past the signal, p / q seconds after it; the overlap's end; the distance to the signal
   abbrev pub place : ℕ → ℕ → ℕ → Fraction
-  place v p q = placeAt k (pastAt t tm tr w v) (p over q)
+  place v p q = placeAt k (record { weight = t .weight; gradient = w .past; v = kmh v; tm = tm; tr = tr }) (p over q)
 
   abbrev pub end : Fraction
   end = whole (w .overlap .0)
@@ -44,7 +44,7 @@ module _ (k : Coefficients) (t : Train) (tm tr : ℕ) (w : Way) where
     -- one km/h more, unless over 100, over the top speed or with an overlap of no length:
     -- some moment finds it less than 5 mm short of that end, or past it
     abbrev pub Tight : Type 0
-    Tight = 0 < w .overlap .0 → release + 1 ≤ 100 → release + 1 ≤ t .top .0 → (p : ℕ) × ((q : ℕ) × ((0 < q) × (end -q (leeway over 1000) <q place (release + 1) p q)))
+    Tight = 0 < w .overlap .0 → release + 1 ≤ 100 → release + 1 ≤ t .top .0 → (p : ℕ) × ((q : ℕ) × ((0 < q) × (end -q (5 over 1000) <q place (release + 1) p q)))
 
     -- the release speed is both, at most 100 and at most the top speed
     pub record Creeps : Type 0 where

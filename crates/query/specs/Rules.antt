@@ -14,7 +14,8 @@ use Rattle.step_braking.specs.Braking.{dp}
 use Rattle.sheet.specs.Sheet.{lineOf}
 use Rattle.query_way.specs.declared.Way.{Way}
 use Rattle.query_way.specs.Way.{wayRules, Leads}
-use Rattle.query.specs.Demand.{pastAt, Creeps}
+use Rattle.query.specs.Demand.{Creeps}
+use Rattle.ramp_motion.specs.declared.Overrun.{Overrun}
 
 -- something is so of the way from the head to the signal
 abbrev pub On : List ℕ → ℕ → ℕ → (Way → Type 0) → Type 0
@@ -23,7 +24,7 @@ On s signal head P = (w : Way) × (Leads (lineOf s) signal head w × P w)
 module _ (k : Coefficients) (t : Train) (tm tr : ℕ) where
   -- dp + di past the signal, and ahead of it at the release speed
   abbrev pub brakingPast : Way → Fraction
-  brakingPast w = ramp.dp (pastAt t tm tr w 1) +q ramp.di k (pastAt t tm tr w 1)
+  brakingPast w = let o : Overrun = record { weight = t .weight; gradient = w .past; v = kmh 1; tm = tm; tr = tr } in ramp.dp o +q ramp.di k o
 
   abbrev pub brakingAhead : Way → ℕ → Fraction
   brakingAhead w v0 = dp k t (w .ahead) (kmh v0) (kmh v0) +q di k (w .ahead)

@@ -125,7 +125,7 @@ fn answer_on(k: Coefficients, train: Train, tm: u32, tr: u32, w: Way) -> Answer
 
 // The query: TM and TR in hundredths of a second, a line sheet, a signal's number from 0, the place of the train's head.
 pub fn query(train: Train, tm: u32, tr: u32, s: &[u8], signal: u32, head: Metre) -> Answer
-    ensures { λ r. ⌜ QueryAnswers first train tm tr (now (s .entry)) signal (head .0) r ⌝ }
+    ensures { λ r. ⌜ QueryAnswers first train tm tr (now (s .entry)) signal (head .0) r (now (s .exit)) ⌝ }
 {
     let found = start(train, tm, tr, s, signal, head);
     match found {

@@ -76,6 +76,6 @@ module _ (k : Coefficients) (o : Overrun) where
       record {
         answer = rw (i .accepted, ← t, ← d, ← h .refusal) refl;
         promise = λ z. rw (h .distance) (wider k o 2 _ _ _ (lit≤ tt) (promised k o m (i .plan) (i .small) (r .moment) (h .turns)));
-        lent = rw (h .refusal) (given-demand _);
+        lent = rw (h .refusal) (given-demand _ []);
         spans = told (ramp-judges k o) (h .refusal ∙ sym (i .accepted)) .1;
       }

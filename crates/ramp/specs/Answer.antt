@@ -49,7 +49,7 @@ lastBelow (suc n) b = cond (b n) n (lastBelow n b)
 abbrev pub refused : ℕ → Stop
 refused n = record { refusal = n; distance = record { 0 = 0 }; moment = 0 }
 
--- the place at the given moment is more than the answer less so many millimetres
+-- the place at the given moment is more than the answer less so many millimetres; the promises have the number itself
 abbrev pub leeway : ℕ
 leeway = 5
 
@@ -83,6 +83,6 @@ module _ (k : Coefficients) (o : Overrun) where
   -- what the call gives: the answer by definition, the promise of every answer, the first demand, and what is turned away
   pub record RampAnswers (r : Stop) : Type 0 where
     pub answer : r ≡ stopOf
-    pub promise : r .refusal ≡ 0 → Promise leeway (r .distance .0) (r .moment)
+    pub promise : r .refusal ≡ 0 → Promise 5 (r .distance .0) (r .moment)
     pub lent : NoneLent (r .refusal) (r .distance .0 ∷ r .moment ∷ [])
     pub spans : Judged (rampRules k o) (r .refusal)

@@ -7,7 +7,7 @@ use lib.IntN.{pos, negsuc}
 use Rattle.lists.specs.Counted.{upTo, every, allHold}
 use Rattle.sheet_line.specs.Bytes.{u16At, u32At, bytes2, bytes4, signed, complement}
 use Rattle.sheet.specs.Sheet.{keeps, accepted, records, bytesOf}
-use Rattle.sheet.specs.Fields.{Fields, sheetOf, fieldsOf}
+use Rattle.sheet.specs.Fields.{Fields, fourLists, sheetOf, fieldsOf}
 
 -- 01 00 02 00 14 00 00 00 1A 00 00 00 26 00 00 00 D0 07 00 00, a stretch, two signals
 abbrev example : List ℕ
@@ -31,6 +31,11 @@ example-fields = refl
 pub example-written : sheetOf fields ≡ example
 unfolding bytesOf records bytes4 bytes2 complement
 example-written = refl
+
+-- the writer's lists in their order: starts, gradients, places, overlaps
+pub example-lists : sheetOf (fourLists (0 ∷ []) (pos 0 ∷ []) (0 ∷ 1057 ∷ []) (120 ∷ 0 ∷ []) 2000) ≡ example
+unfolding bytesOf records bytes4 bytes2 complement
+example-lists = refl
 
 -- 03 00 01 00 14 00 00 00 26 00 00 00 2C 00 00 00 20 A1 07 00, stretches of -1 (FF FF), 35 (23 00) and -35 (DD FF), a signal
 abbrev slopes : List ℕ

@@ -43,18 +43,18 @@ module _ (s : List ℕ) (k : ℕ) where
   unfolding stretchOf
   refused-stretch l = rw (ne-eqb first-of-stretch 0 (λ e. omega arith)) refl
 
-  pub stretch-answers : (r : Stretch) → r ≡ stretchOf s k → Again s (r .refusal) → StretchAnswers s k r
+  pub stretch-answers : (r : Stretch) → r ≡ stretchOf s k → Again s (r .refusal) → StretchAnswers s k r s
   stretch-answers r e a =
       ⊎-elim
       (λ j.
       let z : first-of-stretch ≡ 0 = omega arith in
       let (i, p) = given-stretch z in
       let y : r .refusal ≡ 0 = ap (λ (r : Stretch). r .refusal) e ∙ i in
-      record { answer = e; lent = rw y (given-demand _); spans = spans _ _ _ (stretch-count s) (y ∙ sym z); again = a; read = λ y. rw e p })
+      record { answer = e; lent = rw y (given-demand _ s); spans = spans _ _ _ (stretch-count s) (y ∙ sym z); again = a; read = λ y. rw e p })
       (λ l.
       let i = e ∙ refused-stretch l in
       let y = ap (λ (r : Stretch). r .refusal) i in
-      record { answer = e; lent = rw i (refused-demand _ _ [] (refl, (refl, (refl, tt)))); spans = spans _ _ _ (stretch-count s) y; again = a; read = λ z. absurd (omega arith) })
+      record { answer = e; lent = rw i (refused-demand _ _ s (refl, (refl, (refl, tt)))); spans = spans _ _ _ (stretch-count s) y; again = a; read = λ z. absurd (omega arith) })
       (below first-of-stretch 1)
 
   -- of a signal, without a refusal and with one
@@ -69,16 +69,16 @@ module _ (s : List ℕ) (k : ℕ) where
   unfolding signalOf
   refused-signal l = rw (ne-eqb first-of-signal 0 (λ e. omega arith)) refl
 
-  pub signal-answers : (r : Signal) → r ≡ signalOf s k → Again s (r .refusal) → SignalAnswers s k r
+  pub signal-answers : (r : Signal) → r ≡ signalOf s k → Again s (r .refusal) → SignalAnswers s k r s
   signal-answers r e a =
       ⊎-elim
       (λ j.
       let z : first-of-signal ≡ 0 = omega arith in
       let (i, p) = given-signal z in
       let y : r .refusal ≡ 0 = ap (λ (r : Signal). r .refusal) e ∙ i in
-      record { answer = e; lent = rw y (given-demand _); spans = spans _ _ _ (signal-count s) (y ∙ sym z); again = a; read = λ y. rw e p })
+      record { answer = e; lent = rw y (given-demand _ s); spans = spans _ _ _ (signal-count s) (y ∙ sym z); again = a; read = λ y. rw e p })
       (λ l.
       let i = e ∙ refused-signal l in
       let y = ap (λ (r : Signal). r .refusal) i in
-      record { answer = e; lent = rw i (refused-demand _ _ [] (refl, (refl, tt))); spans = spans _ _ _ (signal-count s) y; again = a; read = λ z. absurd (omega arith) })
+      record { answer = e; lent = rw i (refused-demand _ _ s (refl, (refl, tt))); spans = spans _ _ _ (signal-count s) y; again = a; read = λ z. absurd (omega arith) })
       (below first-of-signal 1)

@@ -10,7 +10,7 @@ use Rattle.train.specs.Units.{metres}
 use Rattle.train.specs.Gradient.{gradientOf}
 use Rattle.train.specs.Refusal.{Refusal, _gives_, firstOf}
 use Rattle.train.specs.Judged.{_keeps_, Judged}
-use Rattle.train.specs.Lent.{NoneLent}
+use Rattle.train.specs.Lent.{FirstDemand}
 use Rattle.sheet.specs.Sheet.{lineOf, accepted}
 use Rattle.sheet.specs.Fields.{fieldsOf, KthStretch, KthSignal}
 use Rattle.sheet.specs.Kept.{sheetRule}
@@ -37,16 +37,16 @@ signalOf s k =
 
 -- what a read promises: its answer, the first demand, what is turned away, that the sheet's fields write its bytes, and that it gives
 -- the places of its number
-pub record StretchAnswers (s : List ℕ) (k : ℕ) (r : Stretch) : Type 0 where
+pub record StretchAnswers (s : List ℕ) (k : ℕ) (r : Stretch) (after : List ℕ) : Type 0 where
   pub answer : r ≡ stretchOf s k
-  pub lent : NoneLent (r .refusal) (r .start .0 ∷ gradientOf (r .gradient) .rise ∷ gradientOf (r .gradient) .fall ∷ [])
+  pub lent : FirstDemand (r .refusal) (r .start .0 ∷ gradientOf (r .gradient) .rise ∷ gradientOf (r .gradient) .fall ∷ []) s after 0
   pub spans : Judged (sheetRule s ∷ 8 keeps (k < length (fieldsOf s .starts)) ∷ []) (r .refusal)
   pub again : Again s (r .refusal)
   pub read : r .refusal ≡ 0 → KthStretch s k (r .start .0) (r .gradient)
 
-pub record SignalAnswers (s : List ℕ) (k : ℕ) (r : Signal) : Type 0 where
+pub record SignalAnswers (s : List ℕ) (k : ℕ) (r : Signal) (after : List ℕ) : Type 0 where
   pub answer : r ≡ signalOf s k
-  pub lent : NoneLent (r .refusal) (r .place .0 ∷ r .overlap .0 ∷ [])
+  pub lent : FirstDemand (r .refusal) (r .place .0 ∷ r .overlap .0 ∷ []) s after 0
   pub spans : Judged (sheetRule s ∷ 8 keeps (k < length (fieldsOf s .places)) ∷ []) (r .refusal)
   pub again : Again s (r .refusal)
   pub read : r .refusal ≡ 0 → KthSignal s k (r .place .0) (r .overlap .0)

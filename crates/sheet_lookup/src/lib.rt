@@ -24,7 +24,7 @@ pub struct Signal {
 
 // The stretch of that number, from 0.
 pub fn read_stretch(s: &[u8], number: u32) -> Stretch
-    ensures { λ r. ⌜ StretchAnswers (now (s .entry)) number r ⌝ }
+    ensures { λ r. ⌜ StretchAnswers (now (s .entry)) number r (now (s .exit)) ⌝ }
 {
     if !sheet::check::accepts(s) {
         return Stretch {
@@ -38,7 +38,7 @@ pub fn read_stretch(s: &[u8], number: u32) -> Stretch
 
 // The signal of that number, from 0.
 pub fn read_signal(s: &[u8], number: u32) -> Signal
-    ensures { λ r. ⌜ SignalAnswers (now (s .entry)) number r ⌝ }
+    ensures { λ r. ⌜ SignalAnswers (now (s .entry)) number r (now (s .exit)) ⌝ }
 {
     if !sheet::check::accepts(s) {
         return Signal {

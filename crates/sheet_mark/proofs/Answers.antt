@@ -27,26 +27,26 @@ no-refusal : (l : Line) (m : Mark) → stepOf l m .refusal ≡ 0
 no-refusal l m = ⊎-elim (λ i. ap (λ (r : Move). r .refusal) (step-on l m i)) (λ i. ap (λ (r : Move). r .refusal) (step-off l m i)) (below (m .next) (l .stretches))
 
 module _ (s : List ℕ) (m : Mark) where
-  pub no-sheet : accepted s ≡ false → MoveAnswers s m (record { refusal = 7; end = 0; start = metres 0; gradient = pos 0; mark = record { next = 0 } })
+  pub no-sheet : accepted s ≡ false → MoveAnswers s m (record { refusal = 7; end = 0; start = metres 0; gradient = pos 0; mark = record { next = 0 } }) s
   unfolding moveOf
   no-sheet h =
       record {
         answer = simp h;
-        lent = refused-demand 7 _ _ (refl, (refl, (refl, (refl, (refl, tt)))));
+        lent = refused-demand 7 _ s (refl, (refl, (refl, (refl, (refl, tt)))));
         spans = told {n = 7} (sheet-settles s then no-more) (simp h) .1;
         again = not-again s 6;
         next = never 6;
         inOrder = never 6;
       }
 
-  pub along : (r : Move) → accepted s ≡ true → r ≡ stepOf (lineOf s) m → Again s (r .refusal) → MoveAnswers s m r
+  pub along : (r : Move) → accepted s ≡ true → r ≡ stepOf (lineOf s) m → Again s (r .refusal) → MoveAnswers s m r s
   unfolding moveOf
   along r h e a =
       let i : r ≡ moveOf s m = e ∙ simp h in
       let z : r .refusal ≡ 0 = ap (λ (r : Move). r .refusal) e ∙ no-refusal (lineOf s) m in
       record {
         answer = i;
-        lent = rw z (given-demand _);
+        lent = rw z (given-demand _ s);
         spans = rw z (told {n = 0} (sheet-settles s then no-more) (simp h) .1);
         again = a;
         next = λ y. rw i (moves s h m);

@@ -9,7 +9,7 @@ use lib.ListN.{length}
 use Rattle.train.specs.Units.{metres}
 use Rattle.train.specs.Gradient.{gradientOf}
 use Rattle.train.specs.Judged.{Judged}
-use Rattle.train.specs.Lent.{Zeros, NoneLent}
+use Rattle.train.specs.Lent.{Zeros, FirstDemand}
 use Rattle.sheet_line.specs.Line.{Line}
 use Rattle.sheet.specs.Sheet.{lineOf, accepted}
 use Rattle.sheet.specs.Fields.{sheetOf, fieldsOf, KthStretch}
@@ -62,9 +62,9 @@ pub record Moves (s : List ℕ) (k : ℕ) (m : Mark) (r : Move) : Type 0 where
 
 -- what a move promises: its answer, the first demand, what is turned away, that the sheet's fields write its bytes, the stretch that the
 -- mark stands before, and stretch k after k moves from a fresh one
-pub record MoveAnswers (s : List ℕ) (m : Mark) (r : Move) : Type 0 where
+pub record MoveAnswers (s : List ℕ) (m : Mark) (r : Move) (after : List ℕ) : Type 0 where
   pub answer : r ≡ moveOf s m
-  pub lent : NoneLent (r .refusal) (r .end ∷ r .start .0 ∷ gradientOf (r .gradient) .rise ∷ gradientOf (r .gradient) .fall ∷ r .mark .next ∷ [])
+  pub lent : FirstDemand (r .refusal) (r .end ∷ r .start .0 ∷ gradientOf (r .gradient) .rise ∷ gradientOf (r .gradient) .fall ∷ r .mark .next ∷ []) s after 0
   pub spans : Judged (sheetRule s ∷ []) (r .refusal)
   pub again : Again s (r .refusal)
   pub next : r .refusal ≡ 0 → Moves s (m .next) m r

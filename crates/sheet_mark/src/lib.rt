@@ -57,7 +57,7 @@ impl Mark {
 
     // A move along any bytes.
     pub fn moved(self, s: &[u8]) -> Move
-        ensures { λ r. ⌜ MoveAnswers (now (s .entry)) self r ⌝ }
+        ensures { λ r. ⌜ MoveAnswers (now (s .entry)) self r (now (s .exit)) ⌝ }
     {
         if !sheet::check::accepts(s) {
             return Move {

@@ -54,10 +54,11 @@ module _ (l : Line) where
       pub last : point < to
       pub held : Holds k point
 
-    -- the promise: the definition's gradient, that of some stretch that holds a point, and no such stretch has less; and the same point by point
+    -- the promise: the definition's gradient, that of some stretch that holds a point, and no such stretch has less, by rise less fall;
+    -- and the same point by point
     pub record LeastOver (g : Gradient) : Type 0 where
       pub value : g ≡ leastOver from to
       pub stretch : (k : ℕ) × (Meets k × (slope k ≡ g))
-      pub stretches : (k : ℕ) → Meets k → g ≼ slope k
+      pub stretches : (k : ℕ) → Meets k → g .rise + slope k .fall ≤ slope k .rise + g .fall
       pub point : (p : ℕ) × ((from ≤ p) × ((p < to) × (slopeAt p ≡ g)))
-      pub points : (p : ℕ) → from ≤ p → p < to → g ≼ slopeAt p
+      pub points : (p : ℕ) → from ≤ p → p < to → g .rise + slopeAt p .fall ≤ slopeAt p .rise + g .fall

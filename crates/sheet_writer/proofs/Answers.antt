@@ -33,10 +33,11 @@ module _ (f : Fields) (lent : List ℕ) where
   left-alone : (n k : ℕ) → k ≡ 0 → FirstDemand n (k ∷ []) lent lent k
   left-alone n k z = rw z (refused-demand n (0 ∷ []) lent (refl, tt))
 
-  pub broken : writable f ≡ false → Writes f lent (record { refusal = 7; length = 0 }) lent
+  pub broken : writable f ≡ false → Writes f f lent (record { refusal = 7; length = 0 }) lent
   unfolding writeOf bufferAfter
   broken w =
       record {
+        unwritten = refl;
         lent = left-alone 7 _ (omega arith);
         spans = spans 7 (simp w);
         long = never 6;
@@ -47,11 +48,12 @@ module _ (f : Fields) (lent : List ℕ) where
       }
 
   module _ (w : writable f ≡ true) where
-    pub no-room : length lent < size f → Writes f lent (record { refusal = 11; length = 0 }) lent
+    pub no-room : length lent < size f → Writes f f lent (record { refusal = 11; length = 0 }) lent
     unfolding writeOf bufferAfter
     no-room h =
         let t = lt-ltb (length lent) (size f) h in
         record {
+          unwritten = refl;
           lent = left-alone 11 _ (omega arith);
           spans = spans 11 (simp (w, t));
           long = never 10;
@@ -61,7 +63,7 @@ module _ (f : Fields) (lent : List ℕ) where
           back = never 10;
         }
 
-    pub written : {after : List ℕ} → size f ≤ length lent → after ≡ put 0 (sheetOf f) lent → Writes f lent (record { refusal = 0; length = size f }) after
+    pub written : {after : List ℕ} → size f ≤ length lent → after ≡ put 0 (sheetOf f) lent → Writes f f lent (record { refusal = 0; length = size f }) after
     unfolding writeOf bufferAfter
     written {after} h e =
         let t = le-ltb (length lent) (size f) h in
@@ -71,6 +73,7 @@ module _ (f : Fields) (lent : List ℕ) where
         let behind : drop (size f) after ≡ drop (size f) lent = ap (drop (size f)) m ∙ drop-at (sheetOf f) (drop (size f) lent) (size f) n in
         let whole : length after ≡ length lent = ap length m ∙ length-append (sheetOf f) (drop (size f) lent) ∙ (let i = length-drop (size f) lent in omega arith) in
         record {
+          unwritten = refl;
           lent = record { zeros = λ l. absurd (let z : 0 < 0 = l in omega arith); untouched = λ l. absurd (let z : 0 < 0 = l in omega arith); room = omega arith; size = whole; beyond = behind };
           spans = spans 0 (simp (w, t));
           long = λ z. omega arith;

@@ -28,11 +28,12 @@ module _ (f : Fields) where
   unfoldable pub bufferAfter : List ℕ → List ℕ
   bufferAfter lent = cond (eqb (firstOf (writeRefusals (length lent))) 0) (sheetOf f ++ drop size lent) lent
 
-  -- what the writer promises: its answer, the whole buffer afterwards, the first demand, what is turned away, how long the sheet is,
-  -- and that what was written is a sheet which reads back as its fields
-  pub record Writes (before : List ℕ) (r : Written) (after : List ℕ) : Type 0 where
+  -- what the writer promises: its answer, the whole buffer afterwards, the first demand (the lists that it reads are as they were), what
+  -- is turned away, how long the sheet is, and that what was written is a sheet which reads back as its fields
+  pub record Writes (lists : Fields) (before : List ℕ) (r : Written) (after : List ℕ) : Type 0 where
     pub answer : r ≡ writeOf (length before)
     pub memory : after ≡ bufferAfter before
+    pub unwritten : lists ≡ f
     pub lent : FirstDemand (r .refusal) (r .length ∷ []) before after (r .length)
     pub spans : Judged (7 keeps Writable f ∷ 11 keeps (20 + 6 * length (f .starts) + 6 * length (f .places) ≤ length before) ∷ []) (r .refusal)
     pub long : r .refusal ≡ 0 → r .length ≡ 20 + 6 * length (f .starts) + 6 * length (f .places)

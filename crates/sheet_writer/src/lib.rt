@@ -14,7 +14,7 @@ pub fn write(
     end: Metre,
     sheet: &mut [u8],
 ) -> Written
-    ensures { λ r. ⌜ Writes (fourLists (now (starts .entry)) (now (gradients .entry)) (now (places .entry)) (now (overlaps .entry)) (end .0)) (now (sheet .entry)) r (now (sheet .exit)) ⌝ }
+    ensures { λ r. ⌜ Writes (fourLists (now (starts .entry)) (now (gradients .entry)) (now (places .entry)) (now (overlaps .entry)) (end .0)) (fourLists (now (starts .exit)) (now (gradients .exit)) (now (places .exit)) (now (overlaps .exit)) (end .0)) (now (sheet .entry)) r (now (sheet .exit)) ⌝ }
 {
     let last = end.0;
     if !sheet_lists::keep(starts, gradients, places, overlaps, last) {

@@ -81,6 +81,6 @@ module _ (t : Train) (g : Gradient) (v v0 : Kmh) where
       rw (at Ebi, at Sbi, at W, at P) (record {
         answer = rw z;
         least = λ i. record { ebi = least Ebi; sbi = least Sbi; w = least W; p = least P };
-        lent = given-demand _;
+        lent = given-demand _ [];
         spans = told (step-judges t g v v0) (sym z) .1;
       })

@@ -8,7 +8,7 @@ abbrev pub Zeros : List ℕ → Type 0
 Zeros [] = Unit
 Zeros (x ∷ xs) = (x ≡ 0) × Zeros xs
 
--- An answer's refusal, its other fields, what was lent to write to, the same afterwards, and how much of it the answer names:
+-- An answer's refusal, its other fields, what was lent, the same afterwards, and how much of it the answer names as written:
 -- on a refusal every other field is 0 and what was lent is as it was; beyond what is named it is so in any case.
 pub record FirstDemand (refusal : ℕ) (others : List ℕ) (lent after : List ℕ) (named : ℕ) : Type 0 where
   pub zeros : 0 < refusal → Zeros others
@@ -17,6 +17,6 @@ pub record FirstDemand (refusal : ℕ) (others : List ℕ) (lent after : List �
   pub size : length after ≡ length lent
   pub beyond : drop named after ≡ drop named lent
 
--- of a call that is lent nothing to write to
+-- of a call that is lent nothing
 abbrev pub NoneLent : ℕ → List ℕ → Type 0
 NoneLent refusal others = FirstDemand refusal others [] [] 0
