@@ -1,8 +1,12 @@
-//! What `include/approach.h` names for C, the wrapper names alike: nothing comes to one and is forgotten in the other.
+//! What `include/approach.h` names for C, the wrapper names alike: nothing comes to one and is forgotten in the other,
+//! and all is in one order there and in the crates.
 use approach::{sheet, Mark, Refusal, LONGEST_ROW};
 use std::collections::BTreeSet;
+use std::fs;
 
 const HEADER: &str = include_str!("../../../include/approach.h");
+const RAW: &str = include_str!("../src/raw.rs");
+const PROVED: &str = include_str!("../../../crates/approach/src/lib.rt");
 
 /// The header's constants whose names begin so, each with the rest of its name and its number, in order.
 fn constants(beginning: &str) -> Vec<(String, u32)> {
@@ -50,10 +54,10 @@ fn calls(text: &str) -> BTreeSet<&str> {
 /// What is proved is declared to C and to Rust, called from C, and named among the promises.
 #[test]
 fn calls_declared() {
-    let proved = calls(include_str!("../../../crates/approach/src/lib.rt"));
+    let proved = calls(PROVED);
     assert!(proved.len() >= 12, "{proved:?}");
     assert_eq!(calls(HEADER), proved);
-    assert_eq!(calls(include_str!("../src/raw.rs")), proved);
+    assert_eq!(calls(RAW), proved);
     for call in proved {
         assert!(include_str!("../../../c/calls.c").contains(call), "c/calls.c does not make {call}");
         let promised = include_str!("../../../docs/PROMISES.md").contains(&format!("`{call}`"));
@@ -61,30 +65,125 @@ fn calls_declared() {
     }
 }
 
-/// What a struct has in a text, from the line that begins it on: each field's name and type, both as Rust writes them. C's `bool`
-/// is a byte.
-fn fields(text: &str, beginning: &str) -> Vec<(String, String)> {
-    let lines = text.lines().skip_while(|line| *line != beginning).skip(1).take_while(|line| !line.starts_with('}'));
-    let of_rust = |line: &str| {
-        let (name, kind) = line.strip_prefix("pub ")?.strip_suffix(',')?.split_once(": ")?;
-        Some((name.to_string(), kind.to_string()))
-    };
-    let of_c = |line: &str| {
-        let (kind, name) = line.split_once(';')?.0.split_once(' ')?;
-        Some((name.to_string(), kind.replace("bool", "uint8_t").replace("uint", "u").replace("int", "i").replace("_t", "")))
-    };
-    lines.map(str::trim).filter_map(|line| of_rust(line).or_else(|| of_c(line))).collect()
+/// Where the crates' names are not C's: a field's is one word, and their `Train` is what C's record stands for.
+const NAMED_OTHERWISE: [(&str, &str); 3] =
+    [("Entered", "Train"), ("pub weight: ", "pub braked_weight: "), ("pub top: ", "pub top_speed: ")];
+
+/// A text without comments, nor attributes that change no order.
+fn bare(text: &str) -> String {
+    let code: String = text.split("/*").map(|part| part.split_once("*/").map_or(part, |(_, code)| code)).collect();
+    let lines = code.lines().filter_map(|line| line.split("//").next()).filter(|line| !line.starts_with("#[derive("));
+    lines.map(|line| line.trim_end().to_string() + "\n").collect()
 }
 
-/// C, Rust and the crate that is proved have the same fields of a train, of the same width; the crate has names of one word.
+/// Every crate's first file in one text, with C's names: any of them may declare what crosses.
+fn crates() -> String {
+    let folder = concat!(env!("CARGO_MANIFEST_DIR"), "/../../crates");
+    let files = fs::read_dir(folder).expect(folder).map(|entry| entry.expect("an entry").path().join("src/lib.rt"));
+    let text: String = files.filter_map(|file| fs::read_to_string(file).ok()).map(|text| bare(&text)).collect();
+    NAMED_OTHERWISE.iter().fold(text, |text, (of_crate, of_c)| text.replace(of_crate, of_c))
+}
+
+/// What stands on either side of a beginning that is there once: of two, the border might have the other.
+fn around<'a>(text: &'a str, beginning: &str) -> (&'a str, &'a str) {
+    assert_eq!(text.matches(beginning).count(), 1, "{beginning}");
+    text.split_once(beginning).expect(beginning)
+}
+
+/// A declaration of C, `type name`, as Rust writes it; a `bool` is a byte. A type that is new at the border stays as it is, and so
+/// is refused.
+fn of_c(declaration: &str) -> String {
+    let (kind, name) = declaration.split_at(declaration.rfind([' ', '*']).expect(declaration) + 1);
+    let kind: &str = match kind.trim() {
+        "bool" => "u8",
+        "uint32_t" => "u32",
+        "int32_t" => "i32",
+        "size_t" => "usize",
+        "const uint8_t *" => "*const u8",
+        "const uint16_t *" => "*const u16",
+        "const uint32_t *" => "*const u32",
+        "const int16_t *" => "*const i16",
+        "uint8_t *" => "*mut u8",
+        "uint32_t *" => "*mut u32",
+        other => match other.strip_prefix("struct approach_") {
+            Some(named) => &(named[..1].to_uppercase() + &named[1..]),
+            None => other,
+        },
+    };
+    format!("{name}: {kind}")
+}
+
+/// A declaration of a crate as it crosses: a unit is its number, a list a pointer and how many lie behind it.
+fn of_crate(crates: &str, declaration: &str) -> String {
+    let (name, kind) = declaration.split_once(": ").expect(declaration);
+    let unit = format!("#[repr(C)]\npub struct {kind}(pub ");
+    let number = crates.contains(&unit).then(|| around(crates, &unit).1.split_once(");").expect(kind).0);
+    let kind = number.unwrap_or(kind).replace("&mut [", "*mut ").replace("&[", "*const ");
+    format!("{name}: {}", kind.replace(']', ", usize"))
+}
+
+/// The declarations of a list, in its order.
+fn listed(list: &str, between: char) -> Vec<String> {
+    let parts = list.split(between).map(|part| part.trim().trim_start_matches("pub "));
+    parts.filter(|part| !part.is_empty()).map(str::to_string).collect()
+}
+
+/// A call's name with its answer, then its parameters, from the beginning of a declaration in Rust on.
+fn call_of_rust(text: &str, beginning: &str, call: &str) -> Vec<String> {
+    let (parameters, rest) = around(text, &format!("{beginning}{call}(")).1.split_once(") -> ").expect(call);
+    let answer = rest.split([';', '\n']).next().expect(call);
+    listed(&format!("{call}: {answer}, {parameters}"), ',')
+}
+
+fn call_of_c(header: &str, call: &str) -> Vec<String> {
+    let (before, rest) = around(header, &format!(" {call}("));
+    let (answer, (parameters, _)) = (before.lines().last().expect(call), rest.split_once(");").expect(call));
+    listed(&format!("{answer} {call}, {parameters}"), ',').iter().map(|part| of_c(part)).collect()
+}
+
+/// The same declarations in the same order, in C, Rust and crate. How many lie behind a pointer has no name in the crate.
+fn assert_same(name: &str, of_c: Vec<String>, of_rust: Vec<String>, of_crate: Vec<String>) {
+    assert_eq!(of_c, of_rust, "{name}: include/approach.h and raw.rs");
+    let unnamed = |part: &String| if part.ends_with(": usize") { "usize".to_string() } else { part.clone() };
+    let of_c: Vec<String> = of_c.iter().map(unnamed).collect();
+    assert_eq!(of_c.join(", "), of_crate.join(", "), "{name}: include/approach.h and the crate");
+}
+
+/// A contract goes by names, so a proof holds in any order of parameters; C goes by the order.
 #[test]
-fn fields_of_a_train() {
-    let of_c = fields(HEADER, "struct approach_train {");
-    assert_eq!(of_c, fields(include_str!("../src/raw.rs"), "pub struct Train {"));
-    let proved = fields(include_str!("../../../crates/approach_train/src/lib.rt"), "pub struct Entered {");
-    let kinds = |fields: Vec<(String, String)>| fields.into_iter().map(|(_, kind)| kind).collect::<Vec<_>>();
-    assert_eq!(kinds(proved), ["u8", "u8", "u32", "u32", "u32"]);
-    assert_eq!(kinds(of_c), ["u8", "u8", "u32", "u32", "u32"]);
+fn parameters_in_order() {
+    let (header, raw, crates) = (bare(HEADER), bare(RAW), crates());
+    let exported: Vec<&str> =
+        PROVED.split("extern \"C\" fn ").skip(1).filter_map(|part| part.split('(').next()).collect();
+    assert!(exported.len() >= 12, "{exported:?}");
+    for call in exported {
+        let proved = call_of_rust(&crates, "#[no_mangle]\npub extern \"C\" fn ", call);
+        let proved = proved.iter().map(|part| of_crate(&crates, part)).collect();
+        assert_same(call, call_of_c(&header, call), call_of_rust(&raw, "    fn ", call), proved);
+    }
+}
+
+/// And any order of fields. What crosses is in raw.rs, since the test above compares what each call takes and answers.
+#[test]
+fn fields_in_order() {
+    let (header, raw, crates) = (bare(HEADER), bare(RAW), crates());
+    let fields = |text, beginning: &str, between| {
+        let (list, _) = around(text, &format!("{beginning} {{")).1.split_once('}').expect(beginning);
+        listed(list, between)
+    };
+    let begun = |line| str::strip_prefix(line, "pub struct ")?.strip_suffix(" {");
+    let structs: Vec<&str> = raw.lines().filter_map(begun).collect();
+    assert!(structs.len() >= 10, "{structs:?}");
+    for name in structs {
+        let of_rust = format!("#[repr(C)]\npub struct {name}");
+        let of_header = fields(&header, &format!("struct approach_{}", name.to_lowercase()), ';');
+        assert_same(
+            name,
+            of_header.iter().map(|part| of_c(part)).collect(),
+            fields(&raw, &of_rust, ','),
+            fields(&crates, &of_rust, ',').iter().map(|part| of_crate(&crates, part)).collect(),
+        );
+    }
 }
 
 #[test]
