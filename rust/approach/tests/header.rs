@@ -65,6 +65,25 @@ fn calls_declared() {
     }
 }
 
+/// An entry point takes every input: none asks anything of its caller. The models' are those that the promises name.
+#[test]
+fn nothing_required() {
+    assert!(!PROVED.contains("requires"), "crates/approach asks something of its caller");
+    let promises = include_str!("../../../docs/PROMISES.md");
+    let (named, _) = around(promises, "The entry points: ").1.split_once(", and for C").expect("those for C");
+    let models: Vec<&str> = named.split('`').skip(1).step_by(2).collect();
+    assert!(models.len() >= 9, "{models:?}");
+    for model in models {
+        let ((name, _), (_, function)) = model.split_once("::").zip(model.rsplit_once("::")).expect(model);
+        let file = format!("{}/../../crates/{name}/src/lib.rt", env!("CARGO_MANIFEST_DIR"));
+        let text = fs::read_to_string(&file).expect(&file);
+        let beginning = format!("pub fn {function}(");
+        let contract: Vec<&str> = around(&text, &beginning).1.lines().take_while(|line| line.trim() != "{").collect();
+        assert!(contract.iter().any(|line| line.contains("ensures")), "{model} promises nothing");
+        assert!(!contract.iter().any(|line| line.contains("requires")), "{model} asks something of its caller");
+    }
+}
+
 /// Where the crates' names are not C's: a field's is one word, and their `Train` is what C's record stands for.
 const NAMED_OTHERWISE: [(&str, &str); 3] =
     [("Entered", "Train"), ("pub weight: ", "pub braked_weight: "), ("pub top: ", "pub top_speed: ")];
