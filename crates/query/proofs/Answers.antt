@@ -42,8 +42,8 @@ use Rattle.query.specs.Demand.{pastAt}
 use Rattle.query.specs.Answer.{refused, answered, release, brakeRefusals, accepted, inputs, wayTo, queryRefusals, answerOf, QueryAnswers}
 use Rattle.query.specs.Rules.{TooWeak, inputRules, brakeRules, queryRules}
 use Rattle.query.specs.Begin.{Fit, Starts, answerAt, answerOn}
-use Rattle.query.proofs.Third.{fit-ahead, kept}
-use Rattle.query.proofs.Brake.{weak-past, weak-ahead, both-strong}
+use Rattle.query.proofs.Third.{fit-ahead, creeps, kept}
+use Rattle.query.proofs.Brake.{weak-past, weak-ahead}
 
 -- the refusals go by rising numbers, so the lowest that applies is the answer (the train's `lowest` and `applies`)
 pub query-rising : (k : Coefficients) (t : Train) (tm tr : ℕ) (s : List ℕ) (signal head : ℕ) → Rising 1 (queryRefusals k t tm tr s signal head)
@@ -151,7 +151,7 @@ module _ (k : Coefficients) (t : Train) (tm tr : ℕ) (s : List ℕ) (signal hea
         record {
           answer = rw (decides, a, b) refl;
           lent = given-demand _ s;
-          spans = by-brake 0 (record { accepted = λ i. ((w, (leads, both-strong k t tm tr w f within a b)), tt); refused = λ l. absurd (let j : 0 < 0 = l in omega arith) });
+          spans = by-brake 0 (record { accepted = λ i. ((w, (leads, (release k t tm tr w .0, (d .creeps, d .enough)))), tt); refused = λ l. absurd (let j : 0 < 0 = l in omega arith) });
           demand = λ y. (w, (leads, d));
           ceilings = λ y. rw (le-ltb 330 P (omega arith)) (as-printed (kmh P));
         }
@@ -161,6 +161,6 @@ module _ (k : Coefficients) (t : Train) (tm tr : ℕ) (s : List ℕ) (signal hea
     on-way = go weak enough refl refl
       where
         go : (a b : Bool) → weak ≡ a → enough ≡ b → Answers (cond a (refused 10) (cond b (accepted k t tm tr w) (refused 10)))
-        go true b e g = refused-by 10 (lit< tt) (decides ∙ rw e refl) (weak-brake (weak-past k t tm tr w f within e))
+        go true b e g = refused-by 10 (lit< tt) (decides ∙ rw e refl) (weak-brake (weak-past k t tm tr w e))
         go false true e g = given e g
-        go false false e g = refused-by 10 (lit< tt) (decides ∙ rw (e, g) refl) (weak-brake (weak-ahead k t tm tr w f within e g))
+        go false false e g = refused-by 10 (lit< tt) (decides ∙ rw (e, g) refl) (weak-brake (weak-ahead k t tm tr w (creeps k t tm tr w f within e) g))

@@ -8,20 +8,20 @@ use lib.Dec.{ltb}
 use Rattle.lists.proofs.Holding.{and-left, and-right}
 use Rattle.train.specs.declared.Train.{Train}
 use Rattle.train.specs.declared.Coefficients.{Coefficients}
-use Rattle.train.specs.Coefficients.{Within}
 use Rattle.step_braking.specs.Braking.{strong}
 use Rattle.ramp.specs.Answer as ramp
 use Rattle.query_way.specs.declared.Way.{Way}
 use Rattle.query_release.specs.Release.{weakPast}
-use Rattle.query.specs.Demand.{pastAt}
+use Rattle.query.specs.Demand.{pastAt, Creeps, Enough}
 use Rattle.query.specs.Answer.{release}
-use Rattle.query.specs.Rules.{Enough, TooWeak}
-use Rattle.query.specs.Begin.{Fit}
-use Rattle.query.proofs.Third.{creeps}
+use Rattle.query.specs.Rules.{TooWeak}
 
-module _ (k : Coefficients) (t : Train) (tm tr : ℕ) (w : Way) (f : Fit t tm tr w) (within : Within k) where
+module _ (k : Coefficients) (t : Train) (tm tr : ℕ) (w : Way) where
   abbrev weak : Bool
   weak = weakPast k (pastAt t tm tr w 1) (w .overlap)
+
+  abbrev R : ℕ
+  R = release k t tm tr w .0
 
   abbrev enough : Bool
   enough = strong k t (w .ahead) (release k t tm tr w) (release k t tm tr w)
@@ -33,10 +33,10 @@ module _ (k : Coefficients) (t : Train) (tm tr : ℕ) (w : Way) (f : Fit t tm tr
   unfolding weakPast ramp.strong
   weak-past e = inl (ltb-true _ _ (and-left some _ e), leb-false _ _ (not-true _ (and-right some _ e)))
 
-  pub weak-ahead : weak ≡ false → enough ≡ false → TooWeak k t tm tr w
+  pub weak-ahead : Creeps k t tm tr w R → enough ≡ false → TooWeak k t tm tr w
   unfolding strong
-  weak-ahead a b = inr (release k t tm tr w .0, (creeps k t tm tr w f within a, leb-false _ _ b))
+  weak-ahead c b = inr (R, (c, leb-false _ _ b))
 
-  pub both-strong : weak ≡ false → enough ≡ true → Enough k t tm tr w
+  pub both-strong : weak ≡ false → enough ≡ true → Enough k t tm tr w R
   unfolding weakPast ramp.strong strong
-  both-strong a b = ((λ l. leb-true _ _ (not-false _ (rw (lt-ltb _ _ l) at a))), (release k t tm tr w .0, (creeps k t tm tr w f within a, leb-true _ _ b)))
+  both-strong a b = record { past = λ l. leb-true _ _ (not-false _ (rw (lt-ltb _ _ l) at a)); ahead = leb-true _ _ b }

@@ -1,6 +1,6 @@
 mod Creep
 mod Marks
-pub mod Third
 mod Brake
+pub mod Third
 mod Answers
 pub mod Agreement

@@ -23,6 +23,7 @@ use Rattle.query.specs.Answer.{release}
 use Rattle.query.specs.Begin.{Fit, FitAhead}
 use Rattle.query.proofs.Creep.{places, low, is-safe, is-tight}
 use Rattle.query.proofs.Marks.{distances, is-marked}
+use Rattle.query.proofs.Brake.{both-strong}
 
 module _ (k : Coefficients) (t : Train) (tm tr : ℕ) (w : Way) (f : Fit t tm tr w) (within : Within k) where
   -- what the climb to the permitted speed asks for
@@ -62,5 +63,6 @@ module _ (k : Coefficients) (t : Train) (tm tr : ℕ) (w : Way) (f : Fit t tm tr
         record {
           numbers = record { places = places t tm tr w f k; distances = distances k within steady t tm tr w R c is e (a .speeds) };
           creeps = creeps past;
+          enough = both-strong k t tm tr w past ahead;
           marked = is-marked k within steady t tm tr w R c is e (a .speeds);
         }

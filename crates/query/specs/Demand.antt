@@ -2,12 +2,15 @@
 use mathlib.Core.Path.{_≡_}
 use mathlib.Core.Logic.{_⊎_, _↔_}
 use Prim.Native.Nat.{ℕ, _+_, _≤_, _<_}
-use Rattle.exact.specs.Fraction.{Fraction, whole, _over_, _-q_, _≤q_, _<q_}
+use Rattle.exact.specs.Fraction.{Fraction, whole, _over_, _+q_, _-q_, _≤q_, _<q_}
 use Rattle.train.specs.declared.Train.{Train}
 use Rattle.train.specs.declared.Coefficients.{Coefficients}
 use Rattle.train.specs.Units.{kmh}
+use Rattle.train_slope.specs.Slope.{di}
+use Rattle.step_braking.specs.Braking.{dp}
 use Rattle.ramp_motion.specs.declared.Overrun.{Overrun}
 use Rattle.ramp_motion.specs.Motion.{placeAt}
+use Rattle.ramp_motion.specs.Motion as ramp
 use Rattle.ramp.specs.Answer.{overrun}
 use Rattle.step_curve.specs.Step.{P}
 use Rattle.query_way.specs.declared.Way.{Way}
@@ -26,6 +29,13 @@ module _ (k : Coefficients) (t : Train) (tm tr : ℕ) (w : Way) where
 
   abbrev pub toSignal : Fraction
   toSignal = whole (w .distance .0)
+
+  -- dp + di past the signal, and ahead of it at the release speed
+  abbrev pub brakingPast : Fraction
+  brakingPast = let o : Overrun = record { weight = t .weight; gradient = w .past; v = kmh 1; tm = tm; tr = tr } in ramp.dp o +q ramp.di k o
+
+  abbrev pub brakingAhead : ℕ → Fraction
+  brakingAhead v0 = dp k t (w .ahead) (kmh v0) (kmh v0) +q di k (w .ahead)
 
   module _ (release : ℕ) where
     -- a speed's exact P distance, in metres, with V0 the release speed and the gradient ahead
@@ -53,6 +63,11 @@ module _ (k : Coefficients) (t : Train) (tm tr : ℕ) (w : Way) where
       pub most : release ≤ 100
       pub top : release ≤ t .top .0
 
+    -- the brake has 0.05 m/s² or more along an overlap that has a length, where the ramp is consulted, and ahead
+    pub record Enough : Type 0 where
+      pub past : 0 < w .overlap .0 → (5 over 100) ≤q brakingPast
+      pub ahead : (5 over 100) ≤q brakingAhead release
+
     -- marked "release", 2, exactly when the release speed's own P is over the distance; the permitted speed is then the release speed.
     -- Otherwise marked "curve", 1: of the speeds from the release speed to the top speed, the permitted speed is the highest up to
     -- which each has its P within the distance.
@@ -68,4 +83,5 @@ module _ (k : Coefficients) (t : Train) (tm tr : ℕ) (w : Way) where
     pub record Demand (permitted mark : ℕ) : Type 0 where
       pub numbers : Numbers
       pub creeps : Creeps
+      pub enough : Enough
       pub marked : Marked permitted mark
