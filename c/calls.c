@@ -54,7 +54,7 @@ static void models(void) {
     expect_row("row_w", approach_row_w, W);
     expect_row("row_p", approach_row_p, P);
     struct approach_stop stop = approach_ramp(100, 0, 36, 200, 400);
-    expect("ramp", stop.refusal == APPROACH_ACCEPTED && stop.distance >= 110850 && stop.distance <= 110854);
+    expect("ramp", stop.refusal == APPROACH_ACCEPTED && stop.distance >= 110850 && stop.distance <= 110851);
     struct approach_limits limits = approach_ceilings(111);
     bool right = limits.w == 13804 && limits.sbi == 13926 && limits.ebi == 14229;
     expect("ceilings", limits.refusal == APPROACH_ACCEPTED && right);

@@ -48,7 +48,8 @@ struct approach_train {
     uint32_t top_speed;     /* km/h of the service regime, 1 to 330 */
 };
 
-/* The step model's four distances in millimetres, each raised to the least whole one not below the exact value. */
+/* The step model's four distances in millimetres, each raised to the least whole one not below the exact value. None is less
+ * than the one before it. */
 struct approach_distances {
     uint32_t refusal; /* 1, 2, 3, 4, 5, 10 */
     uint32_t ebi;     /* emergency brake intervention */
@@ -63,11 +64,12 @@ struct approach_written {
     uint32_t length;  /* how many places of the row, or bytes of the sheet, from the first on; the rest is as it was */
 };
 
-/* How far past a closed signal a train gets that is braked there. */
+/* How far past a closed signal a train gets that is braked there. A faster run, alike in all else, gets further, and neither
+ * number is less. */
 struct approach_stop {
     uint32_t refusal;  /* 1, 3, 5, 6, 10 */
     uint32_t distance; /* millimetres: at no moment is the train further */
-    uint32_t moment;   /* milliseconds: then it is less than 5 mm short of that */
+    uint32_t moment;   /* milliseconds: then it is less than 2 mm short of that */
 };
 
 /* The three ceilings of a permitted speed, in 120ths of a km/h. */

@@ -1,4 +1,4 @@
--- The desk's third demand, of an answer to an accepted query; document 01, "Approach".
+-- The desk's third demand, of an answer to an accepted query; document 01, "Approach"; document 02, Card 13.
 use mathlib.Core.Path.{_≡_}
 use mathlib.Core.Logic.{_⊎_, _↔_}
 use Prim.Native.Nat.{ℕ, _+_, _≤_, _<_}
@@ -52,9 +52,9 @@ module _ (k : Coefficients) (t : Train) (tm tr : ℕ) (w : Way) where
     Safe = (v p q : ℕ) → 1 ≤ v → v ≤ release → 0 < q → place v p q ≤q end
 
     -- one km/h more, unless over 100, over the top speed or with an overlap of no length:
-    -- some moment finds it less than 5 mm short of that end, or past it
+    -- some moment finds it less than 2 mm (Card 13) short of that end, or past it
     abbrev pub Tight : Type 0
-    Tight = 0 < w .overlap .0 → release + 1 ≤ 100 → release + 1 ≤ t .top .0 → (p : ℕ) × ((q : ℕ) × ((0 < q) × (end -q (5 over 1000) <q place (release + 1) p q)))
+    Tight = 0 < w .overlap .0 → release + 1 ≤ 100 → release + 1 ≤ t .top .0 → (p : ℕ) × ((q : ℕ) × ((0 < q) × (end -q (2 over 1000) <q place (release + 1) p q)))
 
     -- the release speed is both, at most 100 and at most the top speed
     pub record Creeps : Type 0 where

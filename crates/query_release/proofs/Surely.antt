@@ -13,4 +13,4 @@ use Rattle.query_release.specs.Release.{stopsWithin}
 use Rattle.query_release.specs.Find.{Each}
 
 pub sure-of : (m : Plan) (overlap : Metre) → Small m → Enough m → (w : ℕ) → w ≤ 100 → Each m (λ k o. stopsWithin k o overlap w ≡ true) → Each m (λ k o. Sure (stopsWithin k o overlap) 0 w)
-sure-of m overlap s e w b f k o is = record { each = λ v l h. le-leb _ _ (le-trans (slower k o m is s e v w h b) (leb-true _ _ (f k o is))) }
+sure-of m overlap s e w b f k o is = record { each = λ v l h. le-leb _ _ (le-trans (slower k o m is s e v w h b .1) (leb-true _ _ (f k o is))) }

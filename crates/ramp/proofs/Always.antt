@@ -3,7 +3,6 @@ use mathlib.Core.Path.{_≡_, sym, _∙_}
 use mathlib.Core.Bool.{true}
 use Prim.Native.Nat.{ℕ, _+_}
 use borrow.Author.Tests.{leb-true, not-false}
-use lib.Dec.{lit≤}
 use Rattle.train.specs.declared.Coefficients.{Coefficients}
 use Rattle.train.specs.Coefficients.{Within}
 use Rattle.train.specs.Refusal.{firstOf}
@@ -12,13 +11,13 @@ use Rattle.ramp_motion.specs.declared.Overrun.{Overrun}
 use Rattle.ramp_motion.specs.declared.Plan.{Plan}
 use Rattle.ramp_motion.specs.Plan.{IsPlan}
 use Rattle.ramp_motion.proofs.Planned.{planOf, planOf-is}
-use Rattle.ramp_plan.specs.Fair.{Fair, Small}
+use Rattle.ramp_plan.specs.Fair.{Fair, Small, Enough}
 use Rattle.ramp_plan.proofs.Whole.{planOf-small}
 use Rattle.ramp_stop.specs.Stop.{Turns, placeUp}
 use Rattle.ramp_stop.proofs.Rolling.{turns}
 use Rattle.ramp.specs.Answer.{inputs, strong, weak, rampRefusals, moment, distance, leeway, Promise}
 use Rattle.ramp.proofs.Moment.{moment-is}
-use Rattle.ramp.proofs.Kept.{strong-is, promised, distance-is, wider}
+use Rattle.ramp.proofs.Kept.{strong-is, promised, distance-is}
 use Rattle.ramp.proofs.Answers.{ramp-rising, inputs-fit}
 
 module _ (k : Coefficients) (o : Overrun) (z : firstOf (rampRefusals k o) ≡ 0) where
@@ -30,20 +29,20 @@ module _ (k : Coefficients) (o : Overrun) (z : firstOf (rampRefusals k o) ≡ 0)
     fair : Fair o
     fair = inputs-fit o (none-before (inputs o) (weak k o) z)
 
-    abbrev m : Plan
+    abbrev pub m : Plan
     m = planOf k o
 
-    is : IsPlan k o m
+    pub is : IsPlan k o m
     is = planOf-is k o (fair .some)
 
-    small : Small m
+    pub small : Small m
     small = planOf-small k o w fair
 
-    turning : (t : ℕ) × Turns m t
-    turning = turns m small (leb-true _ _ (strong-is k o m is small ∙ is-strong))
+    pub enough : Enough m
+    enough = leb-true _ _ (strong-is k o m is small ∙ is-strong)
 
-    gets-to : distance k o ≡ placeUp m (turning .0) + 1
-    gets-to = sym (distance-is k o m is small (turning .0) (turning .1))
+    pub gets-to : (t : ℕ) → Turns m t → placeUp m t + 1 ≡ distance k o
+    gets-to t h = distance-is k o m is small t h
 
     pub always : Promise k o leeway (distance k o) (moment k o)
-    always = let (t, h) = turning in rw (gets-to, ← moment-is k o m is (small .some) t h) (wider k o 2 _ _ _ (lit≤ tt) (promised k o m is small t h))
+    always = let (t, h) = turns m small enough in rw (← gets-to t h, ← moment-is k o m is (small .some) t h) (promised k o m is small t h)

@@ -5,7 +5,6 @@ use mathlib.Core.List.{[]}
 use Prim.Native.Nat.{ℕ, _<_}
 use native.Mathlib.Omega.{arith}
 use borrow.Author.Tests.{ltb-false, ne-eqb}
-use lib.Dec.{lit≤}
 use Rattle.train.specs.declared.Coefficients.{Coefficients}
 use Rattle.train.specs.Coefficients.{first}
 use Rattle.train.specs.Refusal.{firstOf}
@@ -19,8 +18,9 @@ use Rattle.ramp.specs.declared.Stop.{Stop}
 use Rattle.ramp.specs.Answer.{inputs, strong, weak, rampRefusals, refused, stopOf, RampAnswers}
 use Rattle.ramp.specs.Begin.{IsReady, Stops}
 use Rattle.ramp.proofs.Moment.{moment-is}
-use Rattle.ramp.proofs.Kept.{promised, distance-is, wider}
+use Rattle.ramp.proofs.Kept.{promised, distance-is}
 use Rattle.ramp.proofs.Judging.{ramp-judges}
+use Rattle.ramp.proofs.Faster.{outrun}
 
 -- the refusals go by rising numbers, so the lowest that applies is the answer (the train's `lowest` and `applies`)
 pub ramp-rising : (k : Coefficients) (o : Overrun) → Rising 1 (rampRefusals k o)
@@ -64,6 +64,7 @@ module _ (k : Coefficients) (o : Overrun) where
   ramp-refused n l e = record {
     answer = rw (e, ne-eqb n 0 (λ i. omega arith));
     promise = λ z. absurd (let i : n ≡ 0 = z in omega arith);
+    faster = λ z. absurd (let i : n ≡ 0 = z in omega arith);
     lent = refused-demand n _ [] (refl, (refl, tt));
     spans = told (ramp-judges k o) (sym e) .1;
   }
@@ -75,7 +76,8 @@ module _ (k : Coefficients) (o : Overrun) where
       let d = h .distance ∙ distance-is k o m (i .plan) (i .small) (r .moment) (h .turns) in
       record {
         answer = rw (i .accepted, ← t, ← d, ← h .refusal) refl;
-        promise = λ z. rw (h .distance) (wider k o 2 _ _ _ (lit≤ tt) (promised k o m (i .plan) (i .small) (r .moment) (h .turns)));
+        promise = λ z. rw (h .distance) (promised k o m (i .plan) (i .small) (r .moment) (h .turns));
+        faster = λ z w l b. outrun k o m (i .plan) (i .small) (r .moment) (h .turns) w (ramp-judges k o .judged .accepted (i .accepted) .1 .0 .0) l;
         lent = rw (h .refusal) (given-demand _ []);
         spans = told (ramp-judges k o) (h .refusal ∙ sym (i .accepted)) .1;
       }

@@ -9,7 +9,7 @@ use Rattle.exact.specs.Fraction.{whole, signed, cross, _over_, _+q_, _-q_, _*q_
 use Rattle.exact.proofs.Polynomial.{Expr, num, _⊕_, _⊗_}
 use Rattle.exact.proofs.Certificate.{x0, x1, x2, x3, x4, x5, x6, x7, x8, done, times, cert}
 use Rattle.exact.proofs.Shape.{shape, wholeE, overE, _+e_, _*e_}
-use Rattle.exact.proofs.Order.{leb-agree, ≤q-<q-trans}
+use Rattle.exact.proofs.Order.{leb-agree}
 use Rattle.exact.proofs.Substitution.{≈q-refl, ≈q-sym, ≈q-trans, becomes, net, +q-cong, *q-cong, ≤q-cong, <q-cong}
 use Rattle.exact.proofs.Raised.{raised-cong, raised-over-le, raised-over-near}
 use Rattle.train.specs.declared.Coefficients.{Coefficients}
@@ -26,7 +26,7 @@ use Rattle.ramp.specs.Answer.{strong, distance, Promise}
 use Rattle.ramp.proofs.Moment.{place-at, moment-is}
 
 -- after the last millisecond before it rolls back, the train gets at most a millimetre further
-at-most-a-millimetre : (m : Plan) (t : ℕ) → Small m → Turns m t → more m t 1 ≤ less m t 1 + 108 * 10 ^ 10 * m .tr
+pub at-most-a-millimetre : (m : Plan) (t : ℕ) → Small m → Turns m t → more m t 1 ≤ less m t 1 + 108 * 10 ^ 10 * m .tr
 at-most-a-millimetre m t s h =
     let b : built (m .tm) (m .tr) (t + 1) ≤ m .tr = omega arith in
     cert (m .start ∷ m .down ∷ m .up ∷ m .brake ∷ m .tr ∷ t ∷ squares (m .tm) (m .tr) t ∷ squares (m .tm) (m .tr) (t + 1) ∷ built (m .tm) (m .tr) (t + 1) ∷ [])
@@ -35,14 +35,6 @@ at-most-a-millimetre m t s h =
     (times (num 12 ⊗ x3) x8 x4 b
     (times (num 12 ⊗ x4) x3 (num 96390000) (s .brake) (times (num 6) x2 (num 74163600 ⊗ x4) (s .up) done)))))
     (num 6 ⊗ num 1 ⊗ Fast x0 x1 x5 ⊕ num 3 ⊗ x1 ⊗ num 1 ⊗ num 1) (num 6 ⊗ num 1 ⊗ Slow x2 x3 x5 x6 ⊕ num (108 * 10 ^ 10) ⊗ x4) refl
-
--- a promise with so many millimetres is one with more
-pub wider : (k : Coefficients) (o : Overrun) (a b mm ms : ℕ) → a ≤ b → Promise k o a mm ms → Promise k o b mm ms
-wider k o a b mm ms h p = record {
-  number = p .number;
-  never = p .never;
-  near = ≤q-<q-trans ((mm over 1000) -q (b over 1000)) ((mm over 1000) -q (a over 1000)) (placeAt k o (ms over 1000)) (lit< tt) (lit< tt) (omega arith) (p .near);
-}
 
 module _ (k : Coefficients) (o : Overrun) (m : Plan) (is : IsPlan k o m) (s : Small m) where
   sum-is : dp o +q di k o ≈q signed (2 * m .brake * m .tr + m .up) (m .down) (18 * 10 ^ 7 * m .tr)

@@ -1,14 +1,14 @@
--- Document 01, "Ramp" and "What is turned away": what the call answers, and what it promises.
+-- Document 01, "Ramp" and "What is turned away", and document 02, Card 13: what the call answers, and what it promises.
 use mathlib.Core.Path.{_≡_}
 use mathlib.Core.Bool.{Bool, not, cond}
 use mathlib.Core.List.{List, [], _∷_, _++_}
 use Prim.Native.Nat.{ℕ, zero, suc, _+_, _^_, _≤_, _<_}
 use lib.Dec.{ltb, eqb}
-use Rattle.exact.specs.Fraction.{whole, _over_, _+q_, _-q_, leq, _≤q_, _<q_}
+use Rattle.exact.specs.Fraction.{Fraction, whole, _over_, _+q_, _-q_, leq, _≤q_, _<q_}
 use Rattle.train.specs.declared.Kmh.{Kmh}
 use Rattle.train.specs.declared.Gradient.{Gradient}
 use Rattle.train.specs.declared.Coefficients.{Coefficients}
-use Rattle.train.specs.Units.{inMillimetres}
+use Rattle.train.specs.Units.{kmh, inMillimetres}
 use Rattle.train.specs.Refusal.{Refusal, _gives_, firstOf, weightRefusals, gradientRefusals, strongEnough}
 use Rattle.train.specs.Judged.{Rule, _keeps_, Judged, weightRule, gradientRule, brakeRule}
 use Rattle.train.specs.Lent.{NoneLent}
@@ -19,6 +19,10 @@ use Rattle.ramp.specs.declared.Stop.{Stop}
 -- a call's arguments as a record
 abbrev pub overrun : ℕ → Gradient → Kmh → ℕ → ℕ → Overrun
 overrun weight g v tm tr = record { weight = weight; gradient = g; v = v; tm = tm; tr = tr }
+
+-- the same run at another speed
+abbrev pub atSpeed : Overrun → ℕ → Overrun
+atSpeed o v = overrun (o .weight) (o .gradient) (kmh v) (o .tm) (o .tr)
 
 -- 1 to 100 km/h
 abbrev pub speedRefusals : Kmh → List Refusal
@@ -49,9 +53,9 @@ lastBelow (suc n) b = cond (b n) n (lastBelow n b)
 abbrev pub refused : ℕ → Stop
 refused n = record { refusal = n; distance = record { 0 = 0 }; moment = 0 }
 
--- the place at the given moment is more than the answer less so many millimetres; the promises have the number itself
+-- Card 13: the place at the given moment is more than the answer less so many millimetres; the promises have the number itself
 abbrev pub leeway : ℕ
-leeway = 5
+leeway = 2
 
 module _ (k : Coefficients) (o : Overrun) where
   unfoldable pub strong : Bool
@@ -80,9 +84,20 @@ module _ (k : Coefficients) (o : Overrun) where
     pub never : (p q : ℕ) → 0 < q → placeAt k o (p over q) ≤q (mm over 1000)
     pub near : (mm over 1000) -q (slack over 1000) <q placeAt k o (ms over 1000)
 
-  -- what the call gives: the answer by definition, the promise of every answer, the first demand, and what is turned away
+  -- Card 13: a place, in metres, that this run is beyond at no moment p / q, and a millisecond at which the run at w is past it
+  pub record Outrun (w : ℕ) : Type 0 where
+    pub place : Fraction
+    pub number : 0 < place .over
+    pub never : (p q : ℕ) → 0 < q → placeAt k o (p over q) ≤q place
+    pub ms : ℕ
+    pub reached : 0 < placeAt k (atSpeed o w) (ms over 1000) .over
+    pub past : place <q placeAt k (atSpeed o w) (ms over 1000)
+
+  -- what the call gives: the answer by definition, the promise of every answer, that every faster run gets further, the first
+  -- demand, and what is turned away
   pub record RampAnswers (r : Stop) : Type 0 where
     pub answer : r ≡ stopOf
-    pub promise : r .refusal ≡ 0 → Promise 5 (r .distance .0) (r .moment)
+    pub promise : r .refusal ≡ 0 → Promise 2 (r .distance .0) (r .moment)
+    pub faster : r .refusal ≡ 0 → (w : ℕ) → o .v .0 < w → w ≤ 100 → Outrun w
     pub lent : NoneLent (r .refusal) (r .distance .0 ∷ r .moment ∷ [])
     pub spans : Judged (rampRules k o) (r .refusal)

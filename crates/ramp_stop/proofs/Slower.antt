@@ -16,7 +16,7 @@ use Rattle.ramp_stop.specs.Stop.{Turns, placeUp, from}
 use Rattle.ramp_stop.proofs.Rolling.{rolls-on}
 
 module _ (m : Plan) (v w : ℕ) (h : v ≤ w) (t t′ : ℕ) (a : Turns (from m v) t) (b : Turns (from m w) t′) where
-  no-later : t ≤ t′
+  pub no-later : t ≤ t′
   no-later = go (decLe t t′)
     where
       go : Dec (t ≤ t′) → t ≤ t′

@@ -40,6 +40,15 @@ const DEAD_TIMES: [u32; 6] = [200, 2000, 0, 0, 2000, 2001];
 
 const RISE_TIMES: [u32; 6] = [400, 3000, 1, 3000, 1, 400];
 
+// The runs told at every speed, where distance and moment can be seen to rise with it: on the level, down and up.
+const CLIMB_WEIGHTS: [u32; 3] = [100, 45, 160];
+
+const CLIMB_GRADIENTS: [i32; 3] = [0, -28, 35];
+
+const CLIMB_DEAD_TIMES: [u32; 3] = [200, 2000, 2000];
+
+const CLIMB_RISE_TIMES: [u32; 3] = [400, 3000, 1];
+
 pub fn weight(k: usize) -> u32 {
     WEIGHTS[k % 3]
 }
@@ -70,6 +79,22 @@ pub fn dead_time(k: usize) -> u32 {
 
 pub fn rise_time(k: usize) -> u32 {
     RISE_TIMES[k % 6]
+}
+
+pub fn climb_weight(k: usize) -> u32 {
+    CLIMB_WEIGHTS[k % 3]
+}
+
+pub fn climb_gradient(k: usize) -> i32 {
+    CLIMB_GRADIENTS[k % 3]
+}
+
+pub fn climb_dead_time(k: usize) -> u32 {
+    CLIMB_DEAD_TIMES[k % 3]
+}
+
+pub fn climb_rise_time(k: usize) -> u32 {
+    CLIMB_RISE_TIMES[k % 3]
 }
 
 pub fn curve(k: usize) -> Curve {

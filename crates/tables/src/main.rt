@@ -16,7 +16,8 @@ fn print_line(table: u32, k: usize) {
         1 => models::step_line(k),
         2 => models::row_line(k),
         3 => models::ramp_line(k),
-        4 => sheets::sheet_line(k),
+        4 => models::climb_line(k),
+        5 => sheets::sheet_line(k),
         _ => sheets::query_line(k),
     }
 }
@@ -48,13 +49,14 @@ fn main() {
         b"# ramp BW i V TM TR = refusal distance moment\n",
     );
     print_table(3, 3024);
+    print_table(4, 306);
     io::write_all(STDOUT_FILENO, b"# sheet start i place overlap end number");
     io::write_all(
         STDOUT_FILENO,
         b" = refusal length ; refusal start i ; refusal place overlap",
     );
     io::write_all(STDOUT_FILENO, b" ; refusal end start i next\n");
-    print_table(4, 4320);
+    print_table(5, 4320);
     io::write_all(
         STDOUT_FILENO,
         b"# query freight EP BW L top TM TR i overlap signal head",
@@ -63,5 +65,5 @@ fn main() {
         STDOUT_FILENO,
         b" = refusal release permitted mark W SBI EBI\n",
     );
-    print_table(5, 8640);
+    print_table(6, 8640);
 }

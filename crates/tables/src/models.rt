@@ -74,12 +74,7 @@ pub fn row_line(k: usize) {
     text::end();
 }
 
-pub fn ramp_line(k: usize) {
-    let tm = grid::dead_time(k);
-    let tr = grid::rise_time(k);
-    let v = grid::creep(k / 6);
-    let i = grid::gradient(k / 72);
-    let weight = grid::weight(k / 1008);
+fn run_line(weight: u32, i: i32, v: u32, tm: u32, tr: u32) {
     let stop = ramp::ramp(weight, i, Kmh(v), tm, tr);
     let distance = stop.distance;
     io::write_all(STDOUT_FILENO, b"ramp");
@@ -93,4 +88,26 @@ pub fn ramp_line(k: usize) {
     text::field(distance.0);
     text::field(stop.moment);
     text::end();
+}
+
+pub fn ramp_line(k: usize) {
+    let tm = grid::dead_time(k);
+    let tr = grid::rise_time(k);
+    let v = grid::creep(k / 6);
+    run_line(grid::weight(k / 1008), grid::gradient(k / 72), v, tm, tr);
+}
+
+// Every speed of a run, and one past each end of the span.
+pub fn climb_line(k: usize) {
+    let run = k / 102;
+    let v = (k % 102) as u32;
+    let tm = grid::climb_dead_time(run);
+    let tr = grid::climb_rise_time(run);
+    run_line(
+        grid::climb_weight(run),
+        grid::climb_gradient(run),
+        v,
+        tm,
+        tr,
+    );
 }

@@ -68,7 +68,7 @@ impl fmt::Display for Curve {
     }
 }
 
-/// The four distances, each the least whole millimetre not below the exact one.
+/// The four distances, each the least whole millimetre not below the exact one, and none less than the one before it.
 #[derive(Clone, Copy, Debug, PartialEq, Eq)]
 pub struct Distances {
     /// Emergency brake intervention.
@@ -135,11 +135,12 @@ pub struct Times {
 pub struct Stop {
     /// At no moment is the train beyond it.
     pub distance: Millimetre,
-    /// Then the train is less than 5 mm short of the distance.
+    /// Then the train is less than 2 mm short of the distance.
     pub moment: Millisecond,
 }
 
-/// How far a train gets that is braked at a closed signal, from a speed of 1 to 100 km/h.
+/// How far a train gets that is braked at a closed signal, from a speed of 1 to 100 km/h. From a higher one, all else alike, it
+/// gets further.
 pub fn ramp(braked_weight: u32, gradient: PerMille, v: Kmh, times: Times) -> Result<Stop, Refusal> {
     let Times { dead, rise } = times;
     let raw::Stop { refusal, distance, moment } = raw::ramp(braked_weight, gradient.0, v.0, dead.0, rise.0);

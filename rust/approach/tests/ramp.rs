@@ -2,7 +2,7 @@
 use approach::{ramp, raw, Kmh, Millimetre, Millisecond, PerMille, Refusal, Stop};
 use inputs::{times, Random};
 use reference::allegato::{cells, Cell, DEAD_TIME, MISPRINTS};
-use reference::ramp::{keeps_promise, ALLOWANCE};
+use reference::ramp::{goes_farther, keeps_promise, ALLOWANCE};
 
 /// Half a metre, by which a printed whole metre may be off the exact distance.
 const HALF_A_METRE: u32 = 500;
@@ -62,6 +62,32 @@ fn answers_at_the_thresholds() {
         }
     }
     assert!(accepted > 500, "{accepted}");
+}
+
+/// Document 02, Card 13: of two runs alike but for speed the faster goes farther, by the reference's bounds, and neither number
+/// of the library's answer is less.
+#[test]
+fn faster_runs_go_farther() {
+    let mut random = Random(52);
+    let mut pairs = 0;
+    for _ in 0..30_000 {
+        let (weight, gradient) = (random.braked_weight(), random.gradient());
+        let (tm, tr) = (random.near(0, 2000), random.near(1, 3000));
+        let v = 1 + random.below(99) as u32;
+        let faster = if random.below(4) == 0 { v + 1 + random.below(u64::from(100 - v)) as u32 } else { v + 1 };
+        let [slow, fast] = [v, faster].map(|v| answer(weight, gradient, v, tm, tr));
+        let inputs = format!("BW {weight}, i {gradient}, V {v} and {faster}, TM {tm}, TR {tr}");
+        let farther = goes_farther(weight, gradient, v, faster, tm, tr);
+        match (slow, fast) {
+            (Ok((distance, moment)), Ok((farthest, latest))) => {
+                assert!(distance <= farthest && moment <= latest, "{inputs}");
+                assert_eq!(farther, Ok(true), "{inputs}");
+                pairs += 1;
+            }
+            (slow, fast) => assert_eq!((slow.err(), fast.err()), (farther.err(), farther.err()), "{inputs}"),
+        }
+    }
+    assert!(pairs >= 20_000, "{pairs}");
 }
 
 /// Document 01's figures, in the ranges of document 02's Card 13.

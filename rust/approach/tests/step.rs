@@ -1,7 +1,8 @@
 //! The library's distances, rows and ceilings against the reference, on accepted and refused inputs.
-use approach::{ceilings, raw, row, step, Brake, Ceilings, Curve, Distances, Refusal, Train, CURVES};
+use approach::{ceilings, raw, row, step, Brake, Ceilings, Curve, Distances, Refusal, Train, CURVES, LONGEST_ROW};
 use approach::{Kmh, Metre, Millimetre, PerMille};
 use inputs::{on_paper, Random};
+use reference::step::in_order;
 
 /// What stands in lent memory before a call, and in as many places on either side of it.
 const UNTOUCHED: Millimetre = Millimetre(0xdead_beef);
@@ -17,7 +18,13 @@ fn check(t: Train, v: u32, v0: u32, gradient: i32) -> u32 {
     let answer = numbers(step(t, Kmh(v), Kmh(v0), PerMille(gradient)));
     let expected = reference::step::step(on_paper(t), v, v0, gradient);
     assert_eq!(answer, expected, "{t:?}, V {v}, V0 {v0}, i {gradient}");
-    let Err(refusal) = answer else { return 0 };
+    let refusal = match answer {
+        Ok(distances) => {
+            assert!(in_order(&distances), "{t:?}, V {v}, V0 {v0}, i {gradient}");
+            return 0;
+        }
+        Err(refusal) => refusal,
+    };
     let zeros = raw::Distances { refusal, ebi: 0, sbi: 0, w: 0, p: 0 };
     assert_eq!(raw::step(t.into(), v, v0, gradient), zeros, "{t:?}, V {v}, V0 {v0}, i {gradient}");
     refusal
@@ -122,6 +129,33 @@ fn rows_between_untouched_places() {
     for refusal in [0, 1, 2, 3, 4, 5, 10, 11] {
         assert!(seen[refusal] > 5, "too few answers with {refusal}: {seen:?}");
     }
+}
+
+/// Document 02, Card 13, of the four rows with equal arguments, place by place.
+#[test]
+fn rows_in_order() {
+    let mut random = Random(23);
+    let (mut accepted, mut places) = (0, 0);
+    for _ in 0..2_000 {
+        let (t, gradient) = (random.train(), random.gradient());
+        let v0 = random.below(u64::from(t.top_speed.0.min(330)) + 1) as u32;
+        let mut lists = [[UNTOUCHED; LONGEST_ROW]; 4];
+        let mut lists = lists.iter_mut();
+        let rows =
+            CURVES.map(|curve| row(curve, t, Kmh(v0), PerMille(gradient), lists.next().expect("a list of each curve")));
+        let [Ok(ebi), Ok(sbi), Ok(w), Ok(p)] = rows else {
+            assert!(rows.iter().all(|row| row.is_err() && *row == rows[0]), "{t:?}, V0 {v0}, i {gradient}");
+            continue;
+        };
+        assert!([sbi, w, p].iter().all(|row| row.len() == ebi.len()), "{t:?}, V0 {v0}, i {gradient}");
+        for place in 0..ebi.len() {
+            let distances = [ebi[place].0, sbi[place].0, w[place].0, p[place].0];
+            assert!(in_order(&distances), "{t:?}, V {}, V0 {v0}, i {gradient}", v0 as usize + place);
+        }
+        accepted += 1;
+        places += ebi.len();
+    }
+    assert!(accepted > 300 && places > 10_000, "{accepted} accepted, {places} places");
 }
 
 #[test]

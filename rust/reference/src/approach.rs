@@ -3,7 +3,7 @@
 
 use crate::ceilings::ceilings;
 use crate::fraction::Fraction;
-use crate::ramp::{greatest_place, ramp, DEAD_TIMES, RISE_TIMES, SPEEDS};
+use crate::ramp::{greatest_place, ramp, ALLOWANCE, DEAD_TIMES, RISE_TIMES, SPEEDS};
 use crate::sheet::{self, least};
 use crate::step::{exact_p, step, Curve};
 use crate::train::Train;
@@ -12,9 +12,6 @@ use std::fmt;
 use std::ops::RangeInclusive;
 
 const MILLIMETRES: u32 = 1000;
-
-/// The desk's third demand: one km/h more comes to less than this, in millimetres, short of the overlap's end.
-const ALLOWANCE: u32 = 5;
 
 /// Document 01, "What is turned away", numbers the two.
 #[derive(Clone, Copy, Debug, PartialEq, Eq)]
@@ -41,7 +38,7 @@ pub enum Fault {
     TooFast,
     /// At this speed, not over the release speed, some moment finds the train beyond the overlap's end.
     Beyond(u32),
-    /// At one km/h more than the release speed no moment finds it less than 5 mm short of the overlap's end.
+    /// At one km/h more than the release speed no moment finds it less than 2 mm short of the overlap's end.
     Short,
     /// The mark is not the one that the release speed's own P distance gives.
     Mark,
@@ -135,7 +132,7 @@ pub fn approach(train: Train, tm: u32, tr: u32, sheet: &[u8], signal: u32, head:
     Ok(Answer { release, permitted, mark, ceilings: ceilings(permitted)? })
 }
 
-/// The third demand's sentences on the motion past the signal.
+/// The third demand's sentences on the motion past the signal, with Card 13's 2 mm for its 5.
 fn keeps_overlap(train: Train, tm: u32, tr: u32, site: &Site, release: u32) -> Result<(), Fault> {
     let Some(gradient) = site.past else {
         // Every motion leaves place 0, which is the overlap's end.

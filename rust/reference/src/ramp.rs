@@ -15,7 +15,8 @@ pub const RISE_TIMES: RangeInclusive<u32> = 1..=3000;
 const HUNDREDTHS: u64 = 100;
 const MILLISECONDS: u64 = 1000;
 
-/// Document 02, Card 13: by less than this, in millimetres, the place at the given moment is short of the answer.
+/// Document 02, Card 13: by less than this, in millimetres, the place at the given moment is short of the answer, and
+/// one km/h more than the release speed short of the overlap's end.
 pub const ALLOWANCE: u32 = 2;
 
 /// Into how many parts phase R is cut where its stop is sought.
@@ -226,6 +227,26 @@ pub fn greatest_place(
     tr: u32,
 ) -> Result<(Fraction, Fraction), u32> {
     Ok(motion(braked_weight, gradient, v, tm, tr)?.greatest_place())
+}
+
+/// Document 02, Card 13: whether some moment finds the run at the second speed past a place that the run at the first,
+/// alike but for speed, is beyond at no moment.
+///
+/// The first run's upper bound is such a place: no moment finds that run beyond it. The second run's lower bound is
+/// where that run is at some moment: at the stop itself in phases M and C, at most one part of TR before it in phase R.
+/// So if it is the greater of the two, place and moment are found. "No" is wrong at most where the two stops are less
+/// than 2 micrometres apart. Which of the speeds is the higher is not asked.
+pub fn goes_farther(
+    braked_weight: u32,
+    gradient: i32,
+    slower: u32,
+    faster: u32,
+    tm: u32,
+    tr: u32,
+) -> Result<bool, u32> {
+    let (_, place) = greatest_place(braked_weight, gradient, slower, tm, tr)?;
+    let (reached, _) = greatest_place(braked_weight, gradient, faster, tm, tr)?;
+    Ok(reached > place)
 }
 
 /// Document 01's promise with Card 13's allowance: at no moment is the place beyond the distance (millimetres), and at

@@ -26,6 +26,9 @@ pub enum Curve {
     P,
 }
 
+/// In the order of their distances, the shortest first (document 02, Card 13).
+pub const CURVES: [Curve; 4] = [Curve::Ebi, Curve::Sbi, Curve::W, Curve::P];
+
 /// What of the train and the slope is the same at every speed: tf, h + tf, di and dr.
 struct Braking {
     tf: Fraction,
@@ -116,6 +119,11 @@ pub fn exact(train: Train, v: u32, v0: u32, gradient: i32) -> Result<[Fraction; 
 pub fn exact_p(train: Train, v: u32, v0: u32, gradient: i32) -> Result<Fraction, u32> {
     let [.., p] = exact(train, v, v0, gradient)?;
     Ok(p)
+}
+
+/// Document 02, Card 13: EBI is at most SBI, SBI at most W, and W at most P.
+pub fn in_order<D: PartialOrd>([ebi, sbi, w, p]: &[D; 4]) -> bool {
+    ebi <= sbi && sbi <= w && w <= p
 }
 
 /// One curve's distances for every V from V0 to the top speed, V0 first, or the refusal's number.

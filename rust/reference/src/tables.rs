@@ -5,7 +5,7 @@ use crate::approach::{approach, Answer};
 use crate::ceilings::ceilings;
 use crate::ramp::{ramp, Stop};
 use crate::sheet::{next, signal, stretch, write, Signal, Stretch};
-use crate::step::{row, step, Curve};
+use crate::step::{row, step, Curve, CURVES};
 use crate::train::Train;
 use std::fmt::Display;
 
@@ -35,8 +35,9 @@ const SPEEDS: [(u32, u32); 15] = [
 const CREEPS: [u32; 12] = [0, 1, 2, 5, 10, 20, 36, 50, 75, 99, 100, 101];
 /// TM and TR.
 const TIMES: [(u32, u32); 6] = [(200, 400), (2000, 3000), (0, 1), (0, 3000), (2000, 1), (2001, 400)];
+/// BW, gradient, TM and TR of the runs told at every speed, where Card 13's growth with the speed can be read off.
+const FULL_CLIMBS: [(u32, i32, u32, u32); 3] = [(100, 0, 200, 400), (45, -28, 2000, 3000), (160, 35, 2000, 1)];
 
-const CURVES: [Curve; 4] = [Curve::Ebi, Curve::Sbi, Curve::W, Curve::P];
 const ROW_TARGETS: [u32; 2] = [0, 60];
 const ROW_GRADIENTS: [i32; 3] = [-20, 0, 10];
 const ROW_PLACES: usize = 331;
@@ -141,22 +142,26 @@ fn row_table(lines: &mut Lines) {
     }
 }
 
-fn ramp_lines(lines: &mut Lines, braked_weight: u32, gradient: i32) {
-    for v in CREEPS {
-        for (tm, tr) in TIMES {
-            let stop = ramp(braked_weight, gradient, v, tm, tr);
-            let answer = stop.map(|Stop { distance, moment }| [distance, moment].map(i64::from));
-            lines.word("ramp").fields([braked_weight]).fields([gradient]).fields([v, tm, tr]);
-            lines.word(" =").answer(answer).word("\n");
-        }
-    }
+fn ramp_line(lines: &mut Lines, braked_weight: u32, gradient: i32, v: u32, (tm, tr): (u32, u32)) {
+    let stop = ramp(braked_weight, gradient, v, tm, tr);
+    let answer = stop.map(|Stop { distance, moment }| [distance, moment].map(i64::from));
+    lines.word("ramp").fields([braked_weight]).fields([gradient]).fields([v, tm, tr]);
+    lines.word(" =").answer(answer).word("\n");
 }
 
 fn ramp_table(lines: &mut Lines) {
     lines.word("# ramp BW i V TM TR = refusal distance moment\n");
     for braked_weight in BRAKED_WEIGHTS {
         for gradient in GRADIENTS {
-            ramp_lines(lines, braked_weight, gradient);
+            for v in CREEPS {
+                TIMES.iter().for_each(|&times| ramp_line(lines, braked_weight, gradient, v, times));
+            }
+        }
+    }
+    for (braked_weight, gradient, tm, tr) in FULL_CLIMBS {
+        // One speed past each end of the span.
+        for v in 0..=101 {
+            ramp_line(lines, braked_weight, gradient, v, (tm, tr));
         }
     }
 }

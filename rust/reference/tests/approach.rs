@@ -3,11 +3,12 @@
 use numbers::Numbers;
 use reference::approach::{approach, keeps_demand, printed, Answer, Fault, Mark};
 use reference::ceilings::ceilings;
+use reference::fraction::Fraction;
 use reference::ramp::{greatest_place, ramp};
 use reference::sheet::{self, keeps, least, Sheet, Signal, Stretch};
 use reference::step::{exact_p, step};
 use reference::train::Train;
-use reference::units::millimetres;
+use reference::units::{in_millimetres, millimetres};
 use std::collections::BTreeMap;
 
 mod numbers;
@@ -484,7 +485,7 @@ fn wrong_answers_at_a_curve_mark() {
 fn the_overlaps_end_to_the_millimetre() {
     for (v, tm, tr, overlap, place, verdict, verdict_below) in [
         (7, 224, 100, 8, 7995, Ok(()), Err(Fault::Short)),
-        (4, 53, 100, 2, 1996, Ok(()), Ok(())),
+        (4, 53, 100, 2, 1996, Ok(()), Err(Fault::Short)),
         (5, 69, 100, 3, 3000, Ok(()), Ok(())),
         (7, 70, 100, 5, 5001, Err(Fault::Beyond(7)), Ok(())),
     ] {
@@ -495,6 +496,37 @@ fn the_overlaps_end_to_the_millimetre() {
         assert_eq!(query.verdict(answer(v - 1, v - 1, Mark::Release)), verdict_below, "V {v} less 1");
         assert_eq!(query.verdict(query.answer()), Ok(()), "V {v}");
     }
+}
+
+/// For a stop less than 5 mm before a whole metre: that metre, for the overlap's end, and the millimetres missed.
+fn just_before_a_metre(train: Train, gradient: i32, v: u32, tm: u32, tr: u32) -> Option<(u16, Fraction)> {
+    let (_, upper) = greatest_place(train.braked_weight, gradient, v, tm, tr).expect("strong enough");
+    let overlap = upper.raised() as u16;
+    let missed = Fraction::from(1000 * u32::from(overlap)) - in_millimetres(&upper);
+    (missed < Fraction::from(5)).then_some((overlap, missed))
+}
+
+/// Document 02, Card 13: though V keeps within the overlap, 1 km/h less may be the release speed too, but only where
+/// the stop from V misses the end by less than 2 mm. With the third demand's own 5 mm it might be in all of these.
+#[test]
+fn two_millimetres_before_the_overlaps_end() {
+    let (mut near, mut short) = (0, 0);
+    let runs = [(100, 0, 400), (45, -12, 900), (160, 35, 50), (105, 7, 3000)];
+    for ((braked_weight, gradient, tr), v) in runs.into_iter().flat_map(|run| [2, 3, 9].map(|v| (run, v))) {
+        let train = Train { braked_weight, ..EP };
+        for tm in 0..=2000 {
+            let Some((overlap, missed)) = just_before_a_metre(train, gradient.into(), v, tm, tr) else {
+                continue;
+            };
+            let query = Query { train, tm, tr, head: 1000, ..Query::line(&[(0, gradient)], overlap) };
+            let wanted = if missed < Fraction::from(2) { Ok(()) } else { Err(Fault::Short) };
+            assert_eq!(query.verdict(answer(v - 1, v - 1, Mark::Release)), wanted, "{query:?}");
+            assert_eq!(query.verdict(answer(v, v, Mark::Release)), Ok(()), "{query:?}");
+            assert_eq!(query.verdict(query.answer()), Ok(()), "{query:?}");
+            *(if wanted.is_ok() { &mut near } else { &mut short }) += 1;
+        }
+    }
+    assert!(near > 20 && short > 20, "{near} less than 2 mm before the end, {short} from 2 to 5 mm");
 }
 
 #[test]
@@ -521,7 +553,7 @@ fn demand_at_random() {
     assert!(seen.iter().all(|&count| count > 30), "{seen:?}");
 }
 
-/// A release speed 2 km/h off is always seen, 1 km/h only where the stop is not within 5 mm of the overlap's end.
+/// A release speed 2 km/h off is always seen, 1 km/h only where the stop is not within 2 mm of the overlap's end.
 #[test]
 fn wrong_answers_at_random() {
     let mut numbers = Numbers(0x0123_4567_89AB_CDEF);

@@ -4,7 +4,7 @@ use numbers::Numbers;
 use reference::ceilings::ceilings;
 use reference::fraction::Fraction;
 use reference::natural::Natural;
-use reference::step::{row, step, Curve};
+use reference::step::{row, step, Curve, CURVES};
 use reference::train::{di, Train};
 
 mod numbers;
@@ -202,7 +202,7 @@ fn row_is_decided_at_its_target() {
 
 #[test]
 fn rows_hold_the_single_distances() {
-    for (index, curve) in [Curve::Ebi, Curve::Sbi, Curve::W, Curve::P].into_iter().enumerate() {
+    for (index, curve) in CURVES.into_iter().enumerate() {
         for (v0, gradient) in [(0, 0), (37, -25), (90, 35), (100, -1)] {
             let single: Vec<u32> = (v0..=100).map(|v| step(LONG_FREIGHT, v, v0, gradient).unwrap()[index]).collect();
             assert_eq!(row(curve, LONG_FREIGHT, v0, gradient, 101), Ok(single), "{curve:?} to {v0} on {gradient}");

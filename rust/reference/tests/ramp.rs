@@ -1,8 +1,9 @@
-//! Document 01's figures, refusals and promise for the ramp, and the closed forms of document 000, section 5.1.
+//! Document 01's figures, refusals and promise for the ramp, as document 02's Card 13 tightens them, its law that the
+//! faster run goes farther, and the closed forms of document 000, section 5.1.
 
 use numbers::Numbers;
 use reference::fraction::Fraction;
-use reference::ramp::{greatest_place, keeps_promise, motion, ramp, Motion, Phase, Stop};
+use reference::ramp::{goes_farther, greatest_place, keeps_promise, motion, ramp, Motion, Phase, Stop};
 use reference::train::dr;
 use reference::units::millimetres;
 
@@ -11,12 +12,23 @@ mod numbers;
 /// BW, gradient, V, TM and TR as `ramp` takes them.
 type Inputs = (u32, i32, u32, u32, u32);
 
+/// Gradients about the slopes that part K, and the ends of every span.
+const GRADIENTS: [i32; 10] = [-35, -34, -22, -21, -20, -1, 0, 1, 34, 35];
+const BRAKED_WEIGHTS: [u32; 5] = [45, 50, 100, 155, 160];
+const TIMES: [(u32, u32); 9] =
+    [(0, 1), (0, 2), (0, 3000), (1, 1), (1, 2), (1, 3000), (2000, 1), (2000, 2), (2000, 3000)];
+
 /// Document 01's figures, BW 100: V 36 stops in phase C, the two of V 1 in phase R and in phase M.
 const FIGURES: [(Inputs, Phase); 3] =
     [((100, 0, 36, 200, 400), Phase::C), ((100, 0, 1, 0, 3000), Phase::R), ((100, 35, 1, 2000, 1), Phase::M)];
 
 fn fraction(numerator: i64, denominator: u64) -> Fraction {
     Fraction::from((numerator, denominator))
+}
+
+/// A moment in seconds.
+fn milliseconds(count: u32) -> Fraction {
+    fraction(i64::from(count), 1000)
 }
 
 fn run((braked_weight, gradient, v, tm, tr): Inputs) -> Result<Stop, u32> {
@@ -29,6 +41,15 @@ fn moving((braked_weight, gradient, v, tm, tr): Inputs) -> Motion {
 
 fn bounds((braked_weight, gradient, v, tm, tr): Inputs) -> (Fraction, Fraction) {
     greatest_place(braked_weight, gradient, v, tm, tr).expect("accepted inputs")
+}
+
+/// The same run at another speed.
+fn at_speed((braked_weight, gradient, _, tm, tr): Inputs, v: u32) -> Inputs {
+    (braked_weight, gradient, v, tm, tr)
+}
+
+fn outrun((braked_weight, gradient, v, tm, tr): Inputs, faster: u32) -> Result<bool, u32> {
+    goes_farther(braked_weight, gradient, v, faster, tm, tr)
 }
 
 fn kept((braked_weight, gradient, v, tm, tr): Inputs, distance: u32, moment: u32) -> bool {
@@ -54,13 +75,20 @@ impl Numbers {
         }
         inputs
     }
+
+    /// A run and a faster speed for it: the next one mostly, any other sometimes.
+    fn climbing(&mut self) -> (Inputs, u32) {
+        let inputs = self.accepted();
+        let v = inputs.2.min(99);
+        let faster = if self.below(4) == 0 { v + 1 + self.below(100 - v) } else { v + 1 };
+        (at_speed(inputs, v), faster)
+    }
 }
 
+/// The ranges of document 02, Card 13, which lie within document 01's.
 #[test]
 fn figures() {
     let [c, r, m] = FIGURES.map(|(inputs, _)| run(inputs).expect("an accepted figure").distance);
-    assert!((110_850..=110_854).contains(&c) && (903..=907).contains(&r) && (125..=129).contains(&m), "{c} {r} {m}");
-    // Document 02, Card 13.
     assert!((110_850..=110_851).contains(&c) && (903..=904).contains(&r) && (125..=126).contains(&m), "{c} {r} {m}");
 }
 
@@ -151,10 +179,10 @@ fn moment_is_the_last_without_rolling_back() {
     // On -28 per mille BW 45 lets the speed rise in phase R before it falls.
     for inputs in [(100, 0, 36, 200, 400), (100, 0, 1, 0, 3000), (45, -28, 3, 100, 900), (160, 35, 1, 0, 1)] {
         let motion = moving(inputs);
-        let moves = |&moment: &u32| motion.speed(&fraction(i64::from(moment), 1000)) >= fraction(0, 1);
+        let moves = |&moment: &u32| motion.speed(&milliseconds(moment)) >= fraction(0, 1);
         let last = (0..120_000).take_while(moves).last().expect("moving at the start");
         assert!((last + 1..last + 5000).all(|moment| !moves(&moment)), "{inputs:?}");
-        let raised = millimetres(&motion.place(&fraction(i64::from(last), 1000)));
+        let raised = millimetres(&motion.place(&milliseconds(last)));
         assert_eq!(run(inputs), Ok(Stop { distance: raised + 1, moment: last }), "{inputs:?}");
     }
 }
@@ -167,9 +195,10 @@ fn hold_to_promise(inputs: Inputs) {
     assert!(kept(inputs, distance, moment), "{inputs:?}");
     assert!(!kept(inputs, millimetres(&upper) - 1, moment), "too short: {inputs:?}");
     assert!(!kept(inputs, distance, moment + 1000), "a second late: {inputs:?}");
-    assert!(!kept(inputs, distance + 2, moment), "too long: {inputs:?}");
+    // The distance is at least 1 mm over the place at the moment: with another it would be 2 mm or more.
+    assert!(!kept(inputs, distance + 1, moment), "too long: {inputs:?}");
     let motion = moving(inputs);
-    let speed = |moment: u32| motion.speed(&fraction(i64::from(moment), 1000));
+    let speed = |moment: u32| motion.speed(&milliseconds(moment));
     assert!(speed(moment) >= fraction(0, 1) && speed(moment + 1) < fraction(0, 1), "{inputs:?}");
     // Moments all over the run and past it, away from whole milliseconds too.
     for seventh in 0..20 {
@@ -182,21 +211,20 @@ fn hold_to_promise(inputs: Inputs) {
 fn promise_at_random() {
     let mut numbers = Numbers(0x9E37_79B9_7F4A_7C15);
     let mut stops = [0; 3];
-    for _ in 0..4000 {
+    for _ in 0..20_000 {
         let inputs = numbers.accepted();
         hold_to_promise(inputs);
         stops[moving(inputs).stops_in() as usize] += 1;
     }
-    assert!(stops.iter().all(|&count| count > 200), "stops in M, R and C: {stops:?}");
+    assert!(stops.iter().all(|&count| count > 1000), "stops in M, R and C: {stops:?}");
 }
 
-/// Gradients about the slopes that part K, and the ends of every span.
 #[test]
 fn promise_at_the_extremes() {
     let (mut held, mut refused) = (0, 0);
-    for gradient in [-35, -34, -22, -21, -20, -1, 0, 1, 34, 35] {
-        for (braked_weight, v) in [45, 50, 100, 155, 160].into_iter().flat_map(|bw| [(bw, 1), (bw, 2), (bw, 100)]) {
-            for (tm, tr) in [0, 1, 2000].into_iter().flat_map(|tm| [(tm, 1), (tm, 2), (tm, 3000)]) {
+    for gradient in GRADIENTS {
+        for (braked_weight, v) in BRAKED_WEIGHTS.into_iter().flat_map(|bw| [(bw, 1), (bw, 2), (bw, 100)]) {
+            for (tm, tr) in TIMES {
                 let inputs = (braked_weight, gradient, v, tm, tr);
                 match run(inputs) {
                     Err(refusal) => assert_eq!((refusal, gradient < -30), (10, true), "{inputs:?}"),
@@ -210,13 +238,97 @@ fn promise_at_the_extremes() {
     assert_eq!((held, refused), (1350 - 108, 108));
 }
 
-/// Document 02, Card 13: of two runs alike but for speed the faster goes farther.
+/// Document 02, Card 13, in its own words: the moment in milliseconds finds the faster run past a place in metres that
+/// the slower one is beyond at no moment.
+fn found_past(slower: Inputs, faster: u32, place: &Fraction, moment: u32) -> bool {
+    bounds(slower).1 <= *place && moving(at_speed(slower, faster)).place(&milliseconds(moment)) > *place
+}
+
+/// The whole numbers of a slower and a faster run. They not only do not fall but rise: no stop takes less than 0.2 s,
+/// so at the slower one's the faster one is 5 cm ahead, and it still has 1 km/h, which takes another 0.2 s.
+fn rising(slower: Stop, faster: Stop) -> bool {
+    slower.distance < faster.distance && slower.moment < faster.moment
+}
+
+/// What a run and a faster one alike but for speed must hold.
+fn hold_to_order(slower: Inputs, faster: u32) {
+    assert_eq!(outrun(slower, faster), Ok(true), "{slower:?} and {faster}");
+    let [low, high] = [slower.2, faster].map(|v| run(at_speed(slower, v)).expect("accepted inputs"));
+    assert!(rising(low, high), "{slower:?} and {faster}");
+    assert!(found_past(slower, faster, &bounds(slower).1, high.moment), "{slower:?} and {faster}");
+}
+
 #[test]
-fn faster_goes_farther() {
-    for (braked_weight, gradient, tm, tr) in [(100, 0, 200, 400), (45, -28, 2000, 3000), (160, 35, 2000, 1)] {
-        let ways: Vec<_> = (1..=100).map(|v| bounds((braked_weight, gradient, v, tm, tr))).collect();
-        assert!(ways.windows(2).all(|pair| pair[0].1 < pair[1].0), "BW {braked_weight}, gradient {gradient}");
+fn faster_goes_farther_at_random() {
+    let mut numbers = Numbers(0xA076_1D64_78BD_642F);
+    let (mut next, mut other) = (0, 0);
+    for _ in 0..20_000 {
+        let (slower, faster) = numbers.climbing();
+        hold_to_order(slower, faster);
+        *(if faster == slower.2 + 1 { &mut next } else { &mut other }) += 1;
     }
+    assert!(next > 10_000 && other > 4000, "{next} with the next speed, {other} with another");
+}
+
+#[test]
+fn faster_goes_farther_at_the_extremes() {
+    let (mut held, mut refused) = (0, 0);
+    for (gradient, braked_weight) in GRADIENTS.into_iter().flat_map(|i| BRAKED_WEIGHTS.map(|bw| (i, bw))) {
+        for (tm, tr) in TIMES {
+            for (v, faster) in [(1, 2), (1, 100), (2, 3), (98, 99), (99, 100)] {
+                let slower = (braked_weight, gradient, v, tm, tr);
+                if outrun(slower, faster) == Err(10) {
+                    refused += 1;
+                } else {
+                    hold_to_order(slower, faster);
+                    held += 1;
+                }
+            }
+        }
+    }
+    // Only BW 45 and 50 on -35 and -34 are too weak.
+    assert_eq!((held, refused), (2250 - 180, 180));
+}
+
+/// Each speed of the span beside the next.
+#[test]
+fn faster_goes_farther_at_every_speed() {
+    for (braked_weight, gradient, tm, tr) in [(100, 0, 200, 400), (45, -28, 2000, 3000), (160, 35, 2000, 1)] {
+        (1..100).for_each(|v| hold_to_order((braked_weight, gradient, v, tm, tr), v + 1));
+    }
+}
+
+/// The checks of the law say "no" where they should.
+#[test]
+fn slower_does_not_go_farther() {
+    let mut numbers = Numbers(0xD1B5_4A32_D192_ED03);
+    let micrometre = fraction(1, 1_000_000);
+    for _ in 0..1000 {
+        let (slower, v) = numbers.climbing();
+        let faster = at_speed(slower, v);
+        assert_eq!(outrun(faster, slower.2), Ok(false), "{slower:?} and {v}");
+        assert_eq!(outrun(slower, slower.2), Ok(false), "{slower:?}");
+        let [low, high] = [slower, faster].map(|inputs| run(inputs).expect("accepted inputs"));
+        let (place, end) = (bounds(slower).1, bounds(faster).1);
+        assert!(!found_past(slower, v, &place, 0), "not yet past: {slower:?} and {v}");
+        assert!(!found_past(slower, v, &end, high.moment), "never past: {slower:?} and {v}");
+        assert!(!found_past(slower, slower.2, &place, low.moment), "no faster: {slower:?}");
+        // The faster one is past this place too, but so is the slower one at its own moment.
+        let passed = &place - &micrometre;
+        assert!(moving(slower).place(&milliseconds(low.moment)) > passed, "{slower:?}");
+        assert!(!found_past(slower, v, &passed, high.moment), "passed by both: {slower:?} and {v}");
+        let wrong = [(high, low), (low, low), (low, Stop { moment: low.moment, ..high })];
+        assert!(!wrong.into_iter().any(|(low, high)| rising(low, high)), "{slower:?} and {v}");
+        assert!(!rising(low, Stop { distance: low.distance, ..high }), "{slower:?} and {v}");
+    }
+}
+
+#[test]
+fn refusals_of_two_speeds() {
+    assert_eq!(outrun((100, 0, 0, 200, 400), 1), Err(3));
+    assert_eq!(outrun((100, 0, 100, 200, 400), 101), Err(3));
+    assert_eq!(outrun((45, -29, 36, 200, 400), 37), Err(10));
+    assert_eq!(outrun((45, -28, 36, 200, 400), 37), Ok(true));
 }
 
 #[test]

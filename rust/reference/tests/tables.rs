@@ -34,3 +34,26 @@ fn refusals_in_the_tables() {
         assert_eq!(seen.iter().map(u32::to_string).collect::<Vec<_>>().join(" "), refusals, "{table}");
     }
 }
+
+/// The ramp table ends with three runs at every speed, one past each end of the span included. Within it distance and
+/// moment rise.
+#[test]
+fn ramp_runs_at_every_speed() {
+    let lines: Vec<&str> = STORED.lines().filter(|line| line.starts_with("ramp ")).collect();
+    let climbs = lines[lines.len() - 3 * 102..].chunks(102);
+    for ((slope, times), climb) in
+        [("100 0", "200 400"), ("45 -28", "2000 3000"), ("160 35", "2000 1")].iter().zip(climbs)
+    {
+        let mut last = [0, 0];
+        for (v, line) in climb.iter().enumerate() {
+            let answer = line.strip_prefix(&format!("ramp {slope} {v} {times} = ")).expect(line);
+            let fields: Vec<u32> = answer.split(' ').map(|field| field.parse().expect("a number")).collect();
+            if v == 0 || v == 101 {
+                assert_eq!(fields, [3, 0, 0], "{line}");
+                continue;
+            }
+            assert!(fields[0] == 0 && fields[1] > last[0] && fields[2] > last[1], "{line}");
+            last = [fields[1], fields[2]];
+        }
+    }
+}
