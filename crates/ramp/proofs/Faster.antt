@@ -1,13 +1,13 @@
--- Card 13: of two runs alike but for speed the faster gets further than any place of the slower, and its answer is not less.
-use mathlib.Core.Path.{_≡_, refl, sym}
+-- Card 13: of two runs alike but for speed the faster one gets past a place that the slower one is beyond at no moment.
+use mathlib.Core.Path.{_≡_, refl}
 use mathlib.Core.List.{[], _∷_}
 use Prim.Native.Nat.{ℕ, _+_, _*_, _^_, _≤_, _<_}
 use native.Mathlib.Omega.{arith}
-use native.Mathlib.Nat.{mul-pos, le-of-lt, le-of-eq, le-of-mul-le-mul-right, lt-of-not-le}
+use native.Mathlib.Nat.{mul-pos, le-of-lt, le-of-eq, lt-of-not-le}
 use native.Mathlib.Decide.{decLe}
 use lib.Dec.{lit<}
-use Rattle.exact.specs.Fraction.{Fraction, signed, _over_, _≤q_, _<q_}
-use Rattle.exact.proofs.Polynomial.{Expr, num, _⊕_, _⊗_}
+use Rattle.exact.specs.Fraction.{Fraction, signed, _over_, _≤q_}
+use Rattle.exact.proofs.Polynomial.{num, _⊕_, _⊗_}
 use Rattle.exact.proofs.Certificate.{x0, x1, x2, x3, x4, x5, x6, ring, done, times, cert}
 use Rattle.exact.proofs.Substitution.{≈q-refl, ≈q-sym, ≤q-cong, <q-cong}
 use Rattle.train.specs.declared.Coefficients.{Coefficients}

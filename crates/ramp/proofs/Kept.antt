@@ -5,7 +5,7 @@ use Prim.Native.Nat.{ℕ, _+_, _*_, _-_, _^_, _≤_, _<_}
 use native.Mathlib.Omega.{arith}
 use native.Mathlib.Nat.{mul-pos, le-of-lt, le-refl}
 use lib.Dec.{leb, lit<}
-use Rattle.exact.specs.Fraction.{whole, signed, cross, _over_, _+q_, _-q_, _*q_, _≈q_}
+use Rattle.exact.specs.Fraction.{whole, signed, cross, _over_, _+q_, _-q_, _≈q_}
 use Rattle.exact.proofs.Polynomial.{Expr, num, _⊕_, _⊗_}
 use Rattle.exact.proofs.Certificate.{x0, x1, x2, x3, x4, x5, x6, x7, x8, done, times, cert}
 use Rattle.exact.proofs.Shape.{shape, wholeE, overE, _+e_, _*e_}
@@ -15,7 +15,7 @@ use Rattle.exact.proofs.Raised.{raised-cong, raised-over-le, raised-over-near}
 use Rattle.train.specs.declared.Coefficients.{Coefficients}
 use Rattle.ramp_motion.specs.declared.Overrun.{Overrun}
 use Rattle.ramp_motion.specs.declared.Plan.{Plan}
-use Rattle.ramp_motion.specs.Motion.{di, dp, placeAt}
+use Rattle.ramp_motion.specs.Motion.{di, dp}
 use Rattle.ramp_motion.specs.Plan.{IsPlan, squares, gain, loss}
 use Rattle.ramp_motion.proofs.Brake.{built, bend}
 use Rattle.ramp_motion.proofs.Furthest.{more, less, finer, Fast, Slow, ahead, furthest-fine}
