@@ -1,5 +1,5 @@
 -- A train at V has 1.5 s from P to W, and 1.5 s from W to SBI, to the millimetre to which both are raised; with any coefficients.
-use mathlib.Core.Path.{refl}
+use mathlib.Core.Path.{_≡_, refl}
 use mathlib.Core.List.{List, [], _∷_}
 use Prim.Native.Nat.{ℕ, _+_, _*_, _≤_}
 use native.Mathlib.Omega.{arith}
@@ -21,7 +21,7 @@ use Rattle.train_delay.proofs.FromZero.{tf-from-0}
 use Rattle.train_slope.specs.Slope.{di}
 use Rattle.step_braking.specs.Braking.{tR, T, dp, Vβ}
 use Rattle.step_curve.specs.declared.Curve.the-variants as curve
-use Rattle.step_curve.specs.Step.{tW, EBI, SBI, W, P, formula}
+use Rattle.step_curve.specs.Step.{EBI, SBI, W, P, formula}
 use Rattle.step_curve.specs.Order.{Apart, Notice}
 use Rattle.step_curve.proofs.Ordered.{speed-from-0, run-from-0, target-β, β-from-0, service-from-0}
 
@@ -90,11 +90,18 @@ module _ (k : Coefficients) (t : Train) (g : Gradient) (v v0 : Kmh) where
   unfolding SBI
   sbi-from-0 = +q-from-0 (EBI k t g v v0) ((tR +q tf k t) *q β) ebi-from-0 (service-from-0 k t g v v0)
 
-  w-from-0 : whole 0 ≤q W k t g v v0
+  -- W and P have 1.5 s at V more
+  w-is : W k t g v v0 ≡ SBI k t g v v0 +q (15 over 10) *q speed v
   unfolding W
-  w-from-0 = +q-from-0 (SBI k t g v v0) (tW *q speed v) sbi-from-0 (run-from-0 v _ 10)
+  w-is = refl
+
+  p-is : P k t g v v0 ≡ W k t g v v0 +q (15 over 10) *q speed v
+  unfolding P
+  p-is = refl
+
+  w-from-0 : whole 0 ≤q W k t g v v0
+  w-from-0 = rw w-is (+q-from-0 (SBI k t g v v0) ((15 over 10) *q speed v) sbi-from-0 (run-from-0 v 15 10))
 
   -- whichever numbers the second demand gives
   pub noticed : {sbi w p : ℕ} → Least (whole 1000 *q formula k t g v v0 curve.Sbi) sbi → Least (whole 1000 *q formula k t g v v0 curve.W) w → Least (whole 1000 *q formula k t g v v0 curve.P) p → Notice (v .0) sbi w p
-  unfolding W P
-  noticed s h i = record { warned = apart (SBI k t g v v0) v sbi-from-0 s h; permitted = apart (W k t g v v0) v w-from-0 h i }
+  noticed s h i = record { warned = apart (SBI k t g v v0) v sbi-from-0 s (rw w-is at h); permitted = apart (W k t g v v0) v w-from-0 h (rw p-is at i) }
