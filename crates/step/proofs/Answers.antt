@@ -3,8 +3,8 @@ use mathlib.Core.Path.{_≡_, refl, sym}
 use mathlib.Core.List.{List, [], _++_}
 use Prim.Native.Nat.{ℕ, _≤_, _<_}
 use native.Mathlib.Omega.{arith}
-use native.Mathlib.Nat.{le-refl}
 use borrow.Author.Tests.{ltb-false, ne-eqb}
+use lib.Dec.{lit≤}
 use lib.ListN.{length}
 use Rattle.exact.specs.Fraction.{_+q_}
 use Rattle.train.specs.declared.Kmh.{Kmh}
@@ -83,7 +83,7 @@ module _ (t : Train) (g : Gradient) (v v0 : Kmh) where
       record {
         answer = rw (e, ne-eqb n 0 (λ i. omega arith));
         least = λ z. absurd (let k : n ≡ 0 = z in omega arith);
-        inOrder = record { ebi-sbi = le-refl 0; sbi-w = le-refl 0; w-p = le-refl 0 };
+        inOrder = record { ebi-sbi = lit≤ tt; sbi-w = lit≤ tt; w-p = lit≤ tt };
         notice = λ z. absurd (let k : n ≡ 0 = z in omega arith);
         lent = refused-demand n _ [] (refl, (refl, (refl, (refl, tt))));
         spans = told (step-judges t g v v0) (sym e) .1;
