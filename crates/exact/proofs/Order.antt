@@ -74,3 +74,9 @@ module _ (a b c : Fraction) where
           cert (a .plus ∷ a .minus ∷ a .over ∷ b .plus ∷ b .minus ∷ b .over ∷ c .plus ∷ c .minus ∷ c .over ∷ k ∷ [])
           (times (x8 ⊗ x9) (crossE A B) (crossE B A) h (times (x8 ⊗ crossE A B) x6 (x7 ⊕ x9) e (times (x8 ⊗ crossE B A) (x7 ⊕ x9) x6 f done)))
           (crossE (A *e C) (B *e C)) (crossE (B *e C) (A *e C)) refl
+
+  -- the same on the left
+  pub *q-mono-left : whole 0 ≤q c → a ≤q b → c *q a ≤q c *q b
+  *q-mono-left i h =
+      cert (env a b c c) (times (num 1) (crossE (A *e C) (B *e C)) (crossE (B *e C) (A *e C)) (*q-mono i h) done)
+      (crossE (C *e A) (C *e B)) (crossE (C *e B) (C *e A)) refl

@@ -4,7 +4,7 @@ use mathlib.Core.Logic.{_↔_}
 use Prim.Native.Nat.{ℕ, suc, _+_, _*_, _-_, _/_, _≤_, _<_}
 use native.Mathlib.Omega.{arith}
 use native.Mathlib.Nat.{le-refl, le-of-eq, le-antisymm, suc-mul, div-lt-iff-lt-mul, div-mul-le-self}
-use Rattle.exact.specs.Fraction.{Fraction, whole, _over_, _≤q_, _≈q_, raised, Least}
+use Rattle.exact.specs.Fraction.{Fraction, whole, _over_, _+q_, _≤q_, _<q_, _≈q_, raised, Least}
 use Rattle.exact.proofs.Order.{≤q-trans}
 
 -- it is at most n just where the fraction is
@@ -28,6 +28,21 @@ raised-mono a b l m h = raised-le a (raised b) l .1 (≤q-trans a b (whole (rais
 
 pub raised-cong : {a b : Fraction} → a ≈q b → raised a ≡ raised b
 raised-cong {a} {b} e = le-antisymm (raised-mono a b (e .left) (e .right) (le-of-eq (e .equal))) (raised-mono b a (e .right) (e .left) (le-of-eq (sym (e .equal))))
+
+-- the least whole numbers of two fractions are in their order
+pub least-mono : {a b : Fraction} {n m : ℕ} → Least a n → Least b m → a ≤q b → n ≤ m
+least-mono {a} {b} {n} {m} h k e = h .least m (≤q-trans a b (whole m) (k .number) e (k .enough))
+
+-- and that of a fraction not below 0 is less than it and one more
+pub least-near : {a : Fraction} {n : ℕ} → whole 0 ≤q a → Least a n → whole n <q a +q whole 1
+unfolding raised
+least-near {a} {n} i h =
+    let d = a .over in
+    let r : n ≡ (a .plus - a .minus + (d - 1)) / d = least-raised a n h in
+    let k : (a .plus - a .minus + (d - 1)) / d * d ≤ a .plus - a .minus + (d - 1) = div-mul-le-self _ d in
+    let l : n * d ≤ a .plus - a .minus + (d - 1) = rw r k in
+    let m = h .number in
+    omega arith
 
 -- of n / d it is at most q just where q times d holds n
 pub raised-over-le : (n d q : ℕ) → 0 < d → (raised (n over d) ≤ q) ↔ (n ≤ q * d)

@@ -4,11 +4,13 @@ use mathlib.Core.List.{List, [], _++_}
 use Prim.Native.Nat.{ℕ, _≤_, _<_}
 use native.Mathlib.Omega.{arith}
 use borrow.Author.Tests.{ltb-false, ne-eqb}
+use lib.Dec.{lit≤}
 use lib.ListN.{length}
 use Rattle.exact.specs.Fraction.{_+q_}
 use Rattle.train.specs.declared.Kmh.{Kmh}
 use Rattle.train.specs.declared.Train.{Train}
 use Rattle.train.specs.declared.Gradient.{Gradient}
+use Rattle.train.specs.declared.Coefficients.{Coefficients}
 use Rattle.train.specs.Coefficients.{first}
 use Rattle.train.specs.Gradient.{Moderate}
 use Rattle.train.specs.Refusal.{Refusal, firstOf}
@@ -22,8 +24,12 @@ use Rattle.step_curve.specs.declared.Curve.the-variants.{Ebi, Sbi, W, P}
 use Rattle.step_braking.specs.declared.Course.{Course}
 use Rattle.step_braking.specs.Plan.{Near, Enough}
 use Rattle.step_braking.specs.Agreement.{IsCourse}
+use Rattle.step_curve.specs.Order.{InOrder, Notice}
+use Rattle.step_curve.proofs.Ordered.{in-order}
+use Rattle.step_curve.proofs.Noticed.{noticed}
 use Rattle.step_curve.proofs.Exact.{distance-is, distance-least}
-use Rattle.step.specs.Answer.{inputs, inputRules, refused, weak, stepRefusals, stepRules, stepOf, StepAnswers}
+use Rattle.step.specs.declared.Distances.{Distances}
+use Rattle.step.specs.Answer.{inputs, inputRules, refused, weak, stepRefusals, stepRules, distances, stepOf, Exact, StepAnswers}
 use Rattle.step.specs.Begin.{placesOf}
 
 -- what the inputs do not turn away
@@ -61,6 +67,14 @@ pub step-judges : (t : Train) (g : Gradient) (v v0 : Kmh) → Judges (stepRules 
 unfolding strong
 step-judges t g v v0 = inputs-then t g v v0 (brake-settles (dp first t g v v0 +q di first g) then no-more)
 
+-- the second demand puts the four in order, and gives the time between them
+module _ (k : Coefficients) (t : Train) (g : Gradient) (v v0 : Kmh) (d : Distances) (e : Exact k t g v v0 d) where
+  exact-in-order : InOrder (d .ebi .0) (d .sbi .0) (d .w .0) (d .p .0)
+  exact-in-order = in-order k t g v v0 (e .ebi) (e .sbi) (e .w) (e .p)
+
+  exact-notice : Notice (v .0) (d .sbi .0) (d .w .0) (d .p .0)
+  exact-notice = noticed k t g v v0 (e .sbi) (e .w) (e .p)
+
 -- a single distance's answer, and that it is exact where it is given
 module _ (t : Train) (g : Gradient) (v v0 : Kmh) where
   pub step-refused : (n : ℕ) → 0 < n → firstOf (stepRefusals first t g v v0) ≡ n → StepAnswers first t g v v0 (refused n)
@@ -69,6 +83,8 @@ module _ (t : Train) (g : Gradient) (v v0 : Kmh) where
       record {
         answer = rw (e, ne-eqb n 0 (λ i. omega arith));
         least = λ z. absurd (let k : n ≡ 0 = z in omega arith);
+        inOrder = record { ebi-sbi = lit≤ tt; sbi-w = lit≤ tt; w-p = lit≤ tt };
+        notice = λ z. absurd (let k : n ≡ 0 = z in omega arith);
         lent = refused-demand n _ [] (refl, (refl, (refl, (refl, tt))));
         spans = told (step-judges t g v v0) (sym e) .1;
       }
@@ -78,9 +94,12 @@ module _ (t : Train) (g : Gradient) (v v0 : Kmh) where
   step-given c z ahead is enough =
       let at = distance-is first t g c is v v0 ahead enough in
       let least = distance-least first t g c is v v0 ahead enough in
+      let exact : Exact first t g v v0 (distances first t g v v0) = record { ebi = least Ebi; sbi = least Sbi; w = least W; p = least P } in
       rw (at Ebi, at Sbi, at W, at P) (record {
         answer = rw z;
-        least = λ i. record { ebi = least Ebi; sbi = least Sbi; w = least W; p = least P };
+        least = λ i. exact;
+        inOrder = exact-in-order first t g v v0 (distances first t g v v0) exact;
+        notice = λ i. exact-notice first t g v v0 (distances first t g v v0) exact;
         lent = given-demand _ [];
         spans = told (step-judges t g v v0) (sym z) .1;
       })

@@ -16,6 +16,7 @@ use Rattle.train_slope.specs.Slope.{di}
 use Rattle.step_curve.specs.declared.Curve.the-variants.{Ebi, Sbi, W, P}
 use Rattle.step_braking.specs.Braking.{dp, strong}
 use Rattle.step_curve.specs.Step.{formula, distance}
+use Rattle.step_curve.specs.Order.{InOrder, Notice}
 use Rattle.step.specs.declared.Distances.{Distances}
 
 -- V and V0 of 0 to 330, V0 at most V
@@ -73,9 +74,12 @@ module _ (k : Coefficients) (t : Train) (g : Gradient) where
     pub w : Least (whole 1000 *q formula k t g v v0 W) (d .w .0)
     pub p : Least (whole 1000 *q formula k t g v v0 P) (d .p .0)
 
-  -- what a single distance promises: its answer, the second demand, the first, and what is turned away
+  -- what a single distance promises: its answer, the second demand, Card 13's order (also of a refusal's zeros) and the time from curve to
+  -- curve, the first demand, and what is turned away
   pub record StepAnswers (v v0 : Kmh) (d : Distances) : Type 0 where
     pub answer : d ≡ stepOf v v0
     pub least : d .refusal ≡ 0 → Exact v v0 d
+    pub inOrder : InOrder (d .ebi .0) (d .sbi .0) (d .w .0) (d .p .0)
+    pub notice : d .refusal ≡ 0 → Notice (v .0) (d .sbi .0) (d .w .0) (d .p .0)
     pub lent : NoneLent (d .refusal) (d .ebi .0 ∷ d .sbi .0 ∷ d .w .0 ∷ d .p .0 ∷ [])
     pub spans : Judged (stepRules v v0) (d .refusal)

@@ -1,2 +1,4 @@
+pub mod Ordered
+pub mod Noticed
 pub mod Exact
 pub mod Bounds

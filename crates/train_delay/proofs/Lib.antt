@@ -1,2 +1,3 @@
 mod Rows
 pub mod Delays
+pub mod FromZero
