@@ -45,6 +45,11 @@ static void expect_row(const char *name, row_call *call, uint32_t first) {
     expect(name, accepted && row[0] == first && row[1] > first && row[2] == 7);
 }
 
+/* Document 01's three ramp rows, in the ranges of document 02's Card 13. */
+static void expect_ramp(const char *name, struct approach_stop stop, uint32_t least) {
+    expect(name, stop.refusal == APPROACH_ACCEPTED && (stop.distance == least || stop.distance == least + 1));
+}
+
 static void models(void) {
     struct approach_distances d = approach_step(train, 90, 0, 0);
     bool rising = d.ebi < d.sbi && d.sbi < d.w && d.w < d.p;
@@ -53,8 +58,9 @@ static void models(void) {
     expect_row("row_sbi", approach_row_sbi, SBI);
     expect_row("row_w", approach_row_w, W);
     expect_row("row_p", approach_row_p, P);
-    struct approach_stop stop = approach_ramp(100, 0, 36, 200, 400);
-    expect("ramp", stop.refusal == APPROACH_ACCEPTED && stop.distance >= 110850 && stop.distance <= 110851);
+    expect_ramp("ramp", approach_ramp(100, 0, 36, 200, 400), 110850);
+    expect_ramp("ramp while the brake rises", approach_ramp(100, 0, 1, 0, 3000), 903);
+    expect_ramp("ramp before the brake acts", approach_ramp(100, 35, 1, 2000, 1), 125);
     struct approach_limits limits = approach_ceilings(111);
     bool right = limits.w == 13804 && limits.sbi == 13926 && limits.ebi == 14229;
     expect("ceilings", limits.refusal == APPROACH_ACCEPTED && right);

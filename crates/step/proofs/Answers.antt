@@ -24,9 +24,9 @@ use Rattle.step_curve.specs.declared.Curve.the-variants.{Ebi, Sbi, W, P}
 use Rattle.step_braking.specs.declared.Course.{Course}
 use Rattle.step_braking.specs.Plan.{Near, Enough}
 use Rattle.step_braking.specs.Agreement.{IsCourse}
-use Rattle.step_curve.specs.Order.{InOrder, Notice}
+use Rattle.step_curve.specs.Order.{InOrder, InTime}
 use Rattle.step_curve.proofs.Ordered.{in-order}
-use Rattle.step_curve.proofs.Noticed.{noticed}
+use Rattle.step_curve.proofs.Timed.{in-time}
 use Rattle.step_curve.proofs.Exact.{distance-is, distance-least}
 use Rattle.step.specs.declared.Distances.{Distances}
 use Rattle.step.specs.Answer.{inputs, inputRules, refused, weak, stepRefusals, stepRules, distances, stepOf, Exact, StepAnswers}
@@ -72,8 +72,8 @@ module _ (k : Coefficients) (t : Train) (g : Gradient) (v v0 : Kmh) (d : Distanc
   exact-in-order : InOrder (d .ebi .0) (d .sbi .0) (d .w .0) (d .p .0)
   exact-in-order = in-order k t g v v0 (e .ebi) (e .sbi) (e .w) (e .p)
 
-  exact-notice : Notice (v .0) (d .sbi .0) (d .w .0) (d .p .0)
-  exact-notice = noticed k t g v v0 (e .sbi) (e .w) (e .p)
+  exact-in-time : InTime (v .0) (d .sbi .0) (d .w .0) (d .p .0)
+  exact-in-time = in-time k t g v v0 (e .sbi) (e .w) (e .p)
 
 -- a single distance's answer, and that it is exact where it is given
 module _ (t : Train) (g : Gradient) (v v0 : Kmh) where
@@ -84,7 +84,7 @@ module _ (t : Train) (g : Gradient) (v v0 : Kmh) where
         answer = rw (e, ne-eqb n 0 (λ i. omega arith));
         least = λ z. absurd (let k : n ≡ 0 = z in omega arith);
         inOrder = record { ebi-sbi = lit≤ tt; sbi-w = lit≤ tt; w-p = lit≤ tt };
-        notice = λ z. absurd (let k : n ≡ 0 = z in omega arith);
+        inTime = λ z. absurd (let k : n ≡ 0 = z in omega arith);
         lent = refused-demand n _ [] (refl, (refl, (refl, (refl, tt))));
         spans = told (step-judges t g v v0) (sym e) .1;
       }
@@ -99,7 +99,7 @@ module _ (t : Train) (g : Gradient) (v v0 : Kmh) where
         answer = rw z;
         least = λ i. exact;
         inOrder = exact-in-order first t g v v0 (distances first t g v v0) exact;
-        notice = λ i. exact-notice first t g v v0 (distances first t g v v0) exact;
+        inTime = λ i. exact-in-time first t g v v0 (distances first t g v v0) exact;
         lent = given-demand _ [];
         spans = told (step-judges t g v v0) (sym z) .1;
       })

@@ -16,7 +16,7 @@ use Rattle.train_slope.specs.Slope.{di}
 use Rattle.step_curve.specs.declared.Curve.the-variants.{Ebi, Sbi, W, P}
 use Rattle.step_braking.specs.Braking.{dp, strong}
 use Rattle.step_curve.specs.Step.{formula, distance}
-use Rattle.step_curve.specs.Order.{InOrder, Notice}
+use Rattle.step_curve.specs.Order.{InOrder, InTime}
 use Rattle.step.specs.declared.Distances.{Distances}
 
 -- V and V0 of 0 to 330, V0 at most V
@@ -80,6 +80,6 @@ module _ (k : Coefficients) (t : Train) (g : Gradient) where
     pub answer : d ≡ stepOf v v0
     pub least : d .refusal ≡ 0 → Exact v v0 d
     pub inOrder : InOrder (d .ebi .0) (d .sbi .0) (d .w .0) (d .p .0)
-    pub notice : d .refusal ≡ 0 → Notice (v .0) (d .sbi .0) (d .w .0) (d .p .0)
+    pub inTime : d .refusal ≡ 0 → InTime (v .0) (d .sbi .0) (d .w .0) (d .p .0)
     pub lent : NoneLent (d .refusal) (d .ebi .0 ∷ d .sbi .0 ∷ d .w .0 ∷ d .p .0 ∷ [])
     pub spans : Judged (stepRules v v0) (d .refusal)

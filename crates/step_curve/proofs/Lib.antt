@@ -1,4 +1,4 @@
 pub mod Ordered
-pub mod Noticed
+pub mod Timed
 pub mod Exact
 pub mod Bounds

@@ -13,6 +13,6 @@ pub record Apart (v near far : ℕ) : Type 0 where
   pub most : 3 * far < 3 * near + 1250 * v + 3
 
 -- document 01: from P on a train at V has 1.5 s to W, and from W on 1.5 s to SBI
-pub record Notice (v sbi w p : ℕ) : Type 0 where
+pub record InTime (v sbi w p : ℕ) : Type 0 where
   pub warned : Apart v sbi w
   pub permitted : Apart v w p

@@ -22,7 +22,7 @@ use Rattle.train_slope.specs.Slope.{di}
 use Rattle.step_braking.specs.Braking.{tR, T, dp, Vβ}
 use Rattle.step_curve.specs.declared.Curve.the-variants as curve
 use Rattle.step_curve.specs.Step.{EBI, SBI, W, P, formula}
-use Rattle.step_curve.specs.Order.{Apart, Notice}
+use Rattle.step_curve.specs.Order.{Apart, InTime}
 use Rattle.step_curve.proofs.Ordered.{speed-from-0, run-from-0, target-β, β-from-0, service-from-0}
 
 -- 1.5 s at V more, and both raised
@@ -103,5 +103,5 @@ module _ (k : Coefficients) (t : Train) (g : Gradient) (v v0 : Kmh) where
   w-from-0 = rw w-is (+q-from-0 (SBI k t g v v0) ((15 over 10) *q speed v) sbi-from-0 (run-from-0 v 15 10))
 
   -- whichever numbers the second demand gives
-  pub noticed : {sbi w p : ℕ} → Least (whole 1000 *q formula k t g v v0 curve.Sbi) sbi → Least (whole 1000 *q formula k t g v v0 curve.W) w → Least (whole 1000 *q formula k t g v v0 curve.P) p → Notice (v .0) sbi w p
-  noticed s h i = record { warned = apart (SBI k t g v v0) v sbi-from-0 s (rw w-is at h); permitted = apart (W k t g v v0) v w-from-0 h (rw p-is at i) }
+  pub in-time : {sbi w p : ℕ} → Least (whole 1000 *q formula k t g v v0 curve.Sbi) sbi → Least (whole 1000 *q formula k t g v v0 curve.W) w → Least (whole 1000 *q formula k t g v v0 curve.P) p → InTime (v .0) sbi w p
+  in-time s h i = record { warned = apart (SBI k t g v v0) v sbi-from-0 s (rw w-is at h); permitted = apart (W k t g v v0) v w-from-0 h (rw p-is at i) }
