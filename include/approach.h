@@ -64,8 +64,8 @@ struct approach_written {
     uint32_t length;  /* how many places of the row, or bytes of the sheet, from the first on; the rest is as it was */
 };
 
-/* How far past a closed signal a train gets that is braked there. A faster run, alike in all else, gets further, and neither
- * number is less. */
+/* How far past a closed signal a train gets that is braked there. A faster accepted run, alike in all else, gets further, and
+ * neither number is less. */
 struct approach_stop {
     uint32_t refusal;  /* 1, 3, 5, 6, 10 */
     uint32_t distance; /* millimetres: at no moment is the train further */

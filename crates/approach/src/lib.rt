@@ -7,7 +7,7 @@ ghost use Rattle.train.specs.Gradient.{gradientOf};
 ghost use Rattle.step_curve.specs.declared.Curve.the-variants.{Ebi, Sbi, W, P};
 ghost use Rattle.step_row.specs.Answer.{RowAnswers};
 ghost use Rattle.step.specs.Answer.{StepAnswers};
-ghost use Rattle.ramp.specs.Answer.{overrun, RampAnswers};
+ghost use Rattle.ramp.specs.Answer.{RampAnswers};
 ghost use Rattle.ceilings.specs.Answer.{CeilingAnswers};
 ghost use Rattle.sheet.specs.Fields.{fourLists};
 ghost use Rattle.sheet_lookup.specs.Answer.{StretchAnswers, SignalAnswers};
@@ -84,7 +84,7 @@ pub extern "C" fn approach_row_p(train: Entered, v0: u32, gradient: i32, row: &m
 
 #[no_mangle]
 pub extern "C" fn approach_ramp(braked_weight: u32, gradient: i32, v: u32, tm: u32, tr: u32) -> Stop
-    ensures { λ r. ⌜ RampAnswers first (overrun «braked_weight» (gradientOf gradient) (kmh v) tm tr) r ⌝ }
+    ensures { λ r. ⌜ RampAnswers first (record { weight = «braked_weight»; gradient = gradientOf gradient; v = kmh v; tm = tm; tr = tr }) r ⌝ }
 {
     ramp::ramp(braked_weight, gradient, Kmh(v), tm, tr)
 }

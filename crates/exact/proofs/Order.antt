@@ -32,6 +32,10 @@ leq-true a b h = leb→le (cross a b) (cross b a) h
 pub leq-false : (a b : Fraction) → T (not (leq a b)) → b <q a
 leq-false a b h = nleb→lt (cross a b) (cross b a) h
 
+-- and never both
+pub not-both : (a b : Fraction) → a ≤q b → b <q a → ⊥
+not-both a b h k = omega arith
+
 -- the larger of two is at least each of them, and is one of them by its definition
 pub maxq-left : (a b : Fraction) → a ≤q maxq a b
 maxq-left a b = go (leq a b) (leq-true a b)

@@ -11,13 +11,13 @@ use Rattle.train.specs.declared.Coefficients.{Coefficients}
 use Rattle.train.specs.Refusal.{firstOf}
 use Rattle.ramp_motion.specs.declared.Overrun.{Overrun}
 use Rattle.ramp_motion.specs.Motion.{dp}
-use Rattle.ramp.specs.Answer.{inputs, strong, rampRefusals}
+use Rattle.ramp.specs.Answer.{atSpeed, inputs, strong, rampRefusals}
 use Rattle.ramp.proofs.Answers.{by-none}
 use Rattle.ramp.proofs.Always.{is-strong}
 use Rattle.query_climb.specs.Climb.{climb}
 use Rattle.query_climb.proofs.Climbing.{highest}
 use Rattle.query_release.specs.declared.Release.the-variants.{Weak, Speed}
-use Rattle.query_release.specs.Release.{atSpeed, stopsWithin, releaseOf, weakPast, Releases}
+use Rattle.query_release.specs.Release.{stopsWithin, releaseOf, weakPast, Releases}
 
 module _ (k : Coefficients) (o : Overrun) where
   abbrev refusal : ℕ → ℕ

@@ -6,16 +6,11 @@ use lib.Dec.{leb, ltb, eqb}
 use Rattle.train.specs.declared.Kmh.{Kmh}
 use Rattle.train.specs.declared.Metre.{Metre}
 use Rattle.train.specs.declared.Coefficients.{Coefficients}
-use Rattle.train.specs.Units.{kmh}
 use Rattle.ramp_motion.specs.declared.Overrun.{Overrun}
-use Rattle.ramp.specs.Answer.{overrun, strong, distance}
+use Rattle.ramp.specs.Answer.{atSpeed, strong, distance}
 use Rattle.query_climb.specs.Climb.{climb}
 use Rattle.query_release.specs.declared.Release.{Release}
 use Rattle.query_release.specs.declared.Release.the-variants.{Weak, Speed}
-
--- the same motion from v km/h
-abbrev pub atSpeed : Overrun → ℕ → Overrun
-atSpeed o v = overrun (o .weight) (o .gradient) (kmh v) (o .tm) (o .tr)
 
 -- the paper's numbers for each case of the answer: the refusal and the release speed
 abbrev pub saysOf : Release → ℕ × ℕ

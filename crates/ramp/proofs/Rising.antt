@@ -29,7 +29,7 @@ given k o r a z = go (firstOf (rampRefusals k o)) refl (a .answer)
     go (suc n) e i = absurd (let j : suc n ≡ 0 = rw (i, ne-eqb (suc n) 0 (λ q. omega arith)) at z in omega arith)
 
 module _ (k : Coefficients) (within : Within k) (o : Overrun) (w : ℕ) (l : o .v .0 ≤ w) (r r′ : Stop) where
-  pub never-falls : RampAnswers k o r → RampAnswers k (atSpeed o w) r′ → r .refusal ≡ 0 → r′ .refusal ≡ 0 → (r .moment ≤ r′ .moment) × (r .distance .0 ≤ r′ .distance .0)
+  pub never-falls : RampAnswers k o r → RampAnswers k (record { weight = o .weight; gradient = o .gradient; v = record { 0 = w }; tm = o .tm; tr = o .tr }) r′ → r .refusal ≡ 0 → r′ .refusal ≡ 0 → (r .moment ≤ r′ .moment) × (r .distance .0 ≤ r′ .distance .0)
   never-falls a b z z′ =
       let g = given k o r a z in
       let g′ = given k (atSpeed o w) r′ b z′ in

@@ -16,7 +16,7 @@ use Rattle.ramp_motion.specs.declared.Overrun.{Overrun}
 use Rattle.ramp_motion.specs.Motion.{di, dp, speedAt, placeAt}
 use Rattle.ramp.specs.declared.Stop.{Stop}
 
--- a call's arguments as a record
+-- a call's arguments as a record; the contracts have it written out
 abbrev pub overrun : ℕ → Gradient → Kmh → ℕ → ℕ → Overrun
 overrun weight g v tm tr = record { weight = weight; gradient = g; v = v; tm = tm; tr = tr }
 
@@ -84,14 +84,15 @@ module _ (k : Coefficients) (o : Overrun) where
     pub never : (p q : ℕ) → 0 < q → placeAt k o (p over q) ≤q (mm over 1000)
     pub near : (mm over 1000) -q (slack over 1000) <q placeAt k o (ms over 1000)
 
-  -- Card 13: a place, in metres, that this run is beyond at no moment p / q, and a millisecond at which the run at w is past it
+  -- Card 13: a place, in metres, that this run is beyond at no moment p / q, and a millisecond at which the run at w km/h, alike in
+  -- all else, is past it
   pub record Outrun (w : ℕ) : Type 0 where
     pub place : Fraction
     pub number : 0 < place .over
     pub never : (p q : ℕ) → 0 < q → placeAt k o (p over q) ≤q place
     pub ms : ℕ
-    pub reached : 0 < placeAt k (atSpeed o w) (ms over 1000) .over
-    pub past : place <q placeAt k (atSpeed o w) (ms over 1000)
+    pub reached : 0 < placeAt k (record { weight = o .weight; gradient = o .gradient; v = record { 0 = w }; tm = o .tm; tr = o .tr }) (ms over 1000) .over
+    pub past : place <q placeAt k (record { weight = o .weight; gradient = o .gradient; v = record { 0 = w }; tm = o .tm; tr = o .tr }) (ms over 1000)
 
   -- what the call gives: the answer by definition, the promise of every answer, that every faster run gets further, the first
   -- demand, and what is turned away

@@ -8,7 +8,7 @@ ghost use Rattle.train.specs.Coefficients.{first, Within};
 ghost use Rattle.train.specs.Gradient.{gradientOf};
 ghost use Rattle.train.specs.Refusal.{firstOf};
 ghost use Rattle.train.specs.Judged.{Judged};
-ghost use Rattle.ramp.specs.Answer.{overrun, timeRefusals, timesRule, inputs, refused, RampAnswers};
+ghost use Rattle.ramp.specs.Answer.{timeRefusals, timesRule, inputs, refused, RampAnswers};
 ghost use Rattle.ramp_plan.specs.Fair.{Small, Enough};
 ghost use Rattle.ramp.specs.Begin.{Starts, Stops, fromSpeed};
 use ramp_motion::Overrun;
@@ -143,7 +143,7 @@ pub fn stop_of(k: Coefficients, o: Overrun) -> Stop
 
 // The answer with the first values; TM and TR in hundredths of a second.
 pub fn ramp(weight: u32, gradient: i32, v: Kmh, tm: u32, tr: u32) -> Stop
-    ensures { λ r. ⌜ RampAnswers first (overrun weight (gradientOf gradient) v tm tr) r ⌝ }
+    ensures { λ r. ⌜ RampAnswers first (record { weight = weight; gradient = gradientOf gradient; v = v; tm = tm; tr = tr }) r ⌝ }
 {
     let o = Overrun {
         weight: weight,

@@ -13,18 +13,20 @@ fn numbers(answer: Result<Distances, Refusal>) -> Result<[u32; 4], u32> {
     answer.map(|d| CURVES.map(|curve| d.of(curve).0)).map_err(Refusal::number)
 }
 
+/// From P to W and from W to SBI a train at V has 1.5 s, 1250 V / 3 mm, to less than the millimetre that each is raised by.
+fn in_time(v: u32, [_, sbi, w, p]: [u32; 4]) -> bool {
+    [(sbi, w), (w, p)].into_iter().all(|(near, far)| (3 * far).abs_diff(3 * near + 1250 * v) < 3)
+}
+
 /// Answers 0, or the number of the refusal, beside which there are zeros.
 fn check(t: Train, v: u32, v0: u32, gradient: i32) -> u32 {
     let answer = numbers(step(t, Kmh(v), Kmh(v0), PerMille(gradient)));
+    if let Ok(distances) = answer {
+        assert!(in_order(&distances) && in_time(v, distances), "{t:?}, V {v}, V0 {v0}, i {gradient}: {distances:?}");
+    }
     let expected = reference::step::step(on_paper(t), v, v0, gradient);
     assert_eq!(answer, expected, "{t:?}, V {v}, V0 {v0}, i {gradient}");
-    let refusal = match answer {
-        Ok(distances) => {
-            assert!(in_order(&distances), "{t:?}, V {v}, V0 {v0}, i {gradient}");
-            return 0;
-        }
-        Err(refusal) => refusal,
-    };
+    let Err(refusal) = answer else { return 0 };
     let zeros = raw::Distances { refusal, ebi: 0, sbi: 0, w: 0, p: 0 };
     assert_eq!(raw::step(t.into(), v, v0, gradient), zeros, "{t:?}, V {v}, V0 {v0}, i {gradient}");
     refusal
@@ -131,7 +133,7 @@ fn rows_between_untouched_places() {
     }
 }
 
-/// Document 02, Card 13, of the four rows with equal arguments, place by place.
+/// Document 02, Card 13, of the four rows with equal arguments, place by place, and the 1.5 s between them.
 #[test]
 fn rows_in_order() {
     let mut random = Random(23);
@@ -150,7 +152,11 @@ fn rows_in_order() {
         assert!([sbi, w, p].iter().all(|row| row.len() == ebi.len()), "{t:?}, V0 {v0}, i {gradient}");
         for place in 0..ebi.len() {
             let distances = [ebi[place].0, sbi[place].0, w[place].0, p[place].0];
-            assert!(in_order(&distances), "{t:?}, V {}, V0 {v0}, i {gradient}", v0 as usize + place);
+            let v = v0 + place as u32;
+            assert!(
+                in_order(&distances) && in_time(v, distances),
+                "{t:?}, V {v}, V0 {v0}, i {gradient}: {distances:?}"
+            );
         }
         accepted += 1;
         places += ebi.len();

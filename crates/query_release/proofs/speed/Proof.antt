@@ -4,7 +4,7 @@ use mathlib.Core.Path.{_∙_}
 use native.Mathlib.Omega.{arith}
 use Rattle.ramp.specs.declared.Begun.the-variants.{Refused}
 use Rattle.ramp.specs.Begin.{Starts, IsReady}
-use Rattle.query_release.specs.Release.{atSpeed}
+use Rattle.ramp.specs.Answer.{atSpeed}
 use Rattle.query_release.proofs.Past.{no-overlap, release-is, strong-past, weak-past, found-weak, found-speed}
 use Rattle.query_release.proofs.speed.Statement.{statement}
 use Rattle.query_release.proofs.speed.Tie as tie
