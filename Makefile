@@ -33,6 +33,10 @@ test: archives ## the calls from C and the Rust tests, over what is proved
 gate: ## everything from nothing, as CI does: proofs, wrong programs, programs, calls from C, Rust tests
 	bash .ci/run
 
+ceilings: ## writes the table of crates/ceilings_stored anew, from the reference
+	$(run) --bin ceilings > target/ceilings.rt
+	mv target/ceilings.rt crates/ceilings_stored/src/table.rt
+
 tables: ## writes the stored output of crates/tables anew, from the reference
 	$(run) --bin tables > crates/tables/stdout
 
@@ -46,4 +50,4 @@ $(tests): $(call sources,wide_calls)
 	rt staticlib wide_calls
 
 .NOTPARALLEL:
-.PHONY: help example distances curves bench archives test gate tables clean
+.PHONY: help example distances curves bench archives test gate ceilings tables clean

@@ -61,9 +61,29 @@ static void models(void) {
     expect_ramp("ramp", approach_ramp(100, 0, 36, 200, 400), 110850);
     expect_ramp("ramp while the brake rises", approach_ramp(100, 0, 1, 0, 3000), 903);
     expect_ramp("ramp before the brake acts", approach_ramp(100, 35, 1, 2000, 1), 125);
-    struct approach_limits limits = approach_ceilings(111);
-    bool right = limits.w == 13804 && limits.sbi == 13926 && limits.ebi == 14229;
-    expect("ceilings", limits.refusal == APPROACH_ACCEPTED && right);
+}
+
+typedef struct approach_limits limits_call(uint32_t);
+
+/* Document 01's two figures, and a speed over its span. */
+static void expect_ceilings(const char *name, limits_call *call) {
+    const struct approach_limits of_111 = {APPROACH_ACCEPTED, 13804, 13926, 14229};
+    const struct approach_limits of_210 = {APPROACH_ACCEPTED, 25800, 26400, 27000};
+    const struct approach_limits of_331 = {APPROACH_REFUSED_SPEED, 0, 0, 0};
+    struct approach_limits given[] = {call(111), call(210), call(331)}, wanted[] = {of_111, of_210, of_331};
+    expect(name, memcmp(given, wanted, sizeof given) == 0);
+}
+
+/* Both ways answer alike, also what is refused. */
+static void ceilings(void) {
+    expect_ceilings("ceilings", approach_ceilings);
+    expect_ceilings("ceilings_stored", approach_ceilings_stored);
+    bool alike = true;
+    for (uint32_t permitted = 0; permitted < 1000; permitted++) {
+        struct approach_limits worked = approach_ceilings(permitted), stored = approach_ceilings_stored(permitted);
+        alike = alike && memcmp(&worked, &stored, sizeof worked) == 0;
+    }
+    expect("ceilings both ways", alike);
 }
 
 /* As for EBI above, without EP and then as freight: T = 1 + 1.3 * (3.5 + 0.15 * 4) and 1 + 1.3 * (13.5 + 0.04 * 4). */
@@ -189,6 +209,7 @@ static void refusals(void) {
 
 int main(void) {
     models();
+    ceilings();
     bytes();
     longest_row();
     sheets();

@@ -167,8 +167,12 @@ struct approach_written approach_row_p(struct approach_train train, uint32_t v0,
  * 1 to 3,000, it comes up to all it has; both in hundredths of a second. */
 struct approach_stop approach_ramp(uint32_t braked_weight, int32_t gradient, uint32_t v, uint32_t tm, uint32_t tr);
 
-/* The ceilings of a permitted speed in km/h. */
+/* The ceilings of a permitted speed in km/h, 0 to 330. The first works them out by the paper's rule; the second only looks them up,
+ * in a table of 993 numbers (W, SBI, EBI of 0 km/h, of 1 km/h, ..). Their answers are the same, of every number. A tool takes the
+ * first, which is the quicker; the second has its table, some 2,000 bytes, on the stack while it is called. A maker whose equipment
+ * reads stored numbers, such as a display, takes the second, to hold it against one that does the same. */
 struct approach_limits approach_ceilings(uint32_t permitted);
+struct approach_limits approach_ceilings_stored(uint32_t permitted);
 
 /* Writes a line sheet, APPROACH_SHEET_LENGTH(start_count, place_count) bytes of it, from fields that keep its rules. Starts
  * and gradients pair up as stretches, places and overlaps as signals, in lists of one length; metres and per mille. */

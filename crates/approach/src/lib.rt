@@ -1,4 +1,4 @@
-// What designers link: each operation of document 01, as a C function. Each repeats the contract of the call below it.
+// What designers link: each operation of documents 01 and 02, as a C function. Each repeats the contract of the call below it.
 // Takes: every operation, `approach_train`. Gives: libapproach.a.
 ghost use mathlib.Core.Path.{_≡_};
 ghost use Rattle.train.specs.Units.{kmh};
@@ -94,6 +94,13 @@ pub extern "C" fn approach_ceilings(permitted: u32) -> Limits
     ensures { λ r. ⌜ CeilingAnswers (kmh permitted) r ⌝ }
 {
     ceilings::ceilings(Kmh(permitted))
+}
+
+#[no_mangle]
+pub extern "C" fn approach_ceilings_stored(permitted: u32) -> Limits
+    ensures { λ r. ⌜ CeilingAnswers (kmh permitted) r ⌝ }
+{
+    ceilings_stored::stored(Kmh(permitted))
 }
 
 #[no_mangle]

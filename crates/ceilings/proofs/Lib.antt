@@ -1,2 +1,2 @@
 pub mod Agrees
-mod Answers
+pub mod Answers

@@ -2,3 +2,4 @@ pub mod Split
 pub mod Places
 pub mod Holding
 pub mod Laid
+pub mod Table

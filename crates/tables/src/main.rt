@@ -13,11 +13,12 @@ use libc::STDOUT_FILENO;
 fn print_line(table: u32, k: usize) {
     match table {
         0 => models::ceilings_line(k),
-        1 => models::step_line(k),
-        2 => models::row_line(k),
-        3 => models::ramp_line(k),
-        4 => models::climb_line(k),
-        5 => sheets::sheet_line(k),
+        1 => models::stored_line(k),
+        2 => models::step_line(k),
+        3 => models::row_line(k),
+        4 => models::ramp_line(k),
+        5 => models::climb_line(k),
+        6 => sheets::sheet_line(k),
         _ => sheets::query_line(k),
     }
 }
@@ -34,29 +35,31 @@ fn print_table(table: u32, lines: usize) {
 fn main() {
     io::write_all(STDOUT_FILENO, b"# ceilings V = refusal W SBI EBI\n");
     print_table(0, 332);
+    io::write_all(STDOUT_FILENO, b"# stored V = refusal W SBI EBI\n");
+    print_table(1, 332);
     io::write_all(
         STDOUT_FILENO,
         b"# step freight EP BW L top V V0 i = refusal EBI SBI W P\n",
     );
-    print_table(1, 12600);
+    print_table(2, 12600);
     io::write_all(
         STDOUT_FILENO,
         b"# row curve freight EP BW L top V0 i = refusal length distances\n",
     );
-    print_table(2, 96);
+    print_table(3, 96);
     io::write_all(
         STDOUT_FILENO,
         b"# ramp BW i V TM TR = refusal distance moment\n",
     );
-    print_table(3, 3024);
-    print_table(4, 306);
+    print_table(4, 3024);
+    print_table(5, 306);
     io::write_all(STDOUT_FILENO, b"# sheet start i place overlap end number");
     io::write_all(
         STDOUT_FILENO,
         b" = refusal length ; refusal start i ; refusal place overlap",
     );
     io::write_all(STDOUT_FILENO, b" ; refusal end start i next\n");
-    print_table(5, 4320);
+    print_table(6, 4320);
     io::write_all(
         STDOUT_FILENO,
         b"# query freight EP BW L top TM TR i overlap signal head",
@@ -65,5 +68,5 @@ fn main() {
         STDOUT_FILENO,
         b" = refusal release permitted mark W SBI EBI\n",
     );
-    print_table(6, 8640);
+    print_table(7, 8640);
 }

@@ -1,25 +1,36 @@
 // Lines of the ceilings, the step model and the ramp.
 use super::grid;
 use super::text;
+use ceilings::Limits;
 use libc::STDOUT_FILENO;
 use train::Kmh;
 
 const ROW_GRADIENTS: [i32; 3] = [-20, 0, 10];
 
-pub fn ceilings_line(k: usize) {
-    let v = (k % 332) as u32;
-    let limits = ceilings::ceilings(Kmh(v));
-    let w = limits.w;
-    let sbi = limits.sbi;
-    let ebi = limits.ebi;
-    io::write_all(STDOUT_FILENO, b"ceilings");
+// A speed, and the answer of either way to its ceilings.
+fn limits(v: u32, answer: Limits) {
+    let w = answer.w;
+    let sbi = answer.sbi;
+    let ebi = answer.ebi;
     text::field(v);
     text::equals();
-    text::field(limits.refusal);
+    text::field(answer.refusal);
     text::field(w.0);
     text::field(sbi.0);
     text::field(ebi.0);
     text::end();
+}
+
+pub fn ceilings_line(k: usize) {
+    let v = (k % 332) as u32;
+    io::write_all(STDOUT_FILENO, b"ceilings");
+    limits(v, ceilings::ceilings(Kmh(v)));
+}
+
+pub fn stored_line(k: usize) {
+    let v = (k % 332) as u32;
+    io::write_all(STDOUT_FILENO, b"stored");
+    limits(v, ceilings_stored::stored(Kmh(v)));
 }
 
 pub fn step_line(k: usize) {

@@ -57,7 +57,8 @@ pub mod sheet;
 mod units;
 
 pub use models::{
-    ceilings, ramp, row, step, Brake, Ceilings, Curve, Distances, Stop, Times, Train, CURVES, LONGEST_ROW,
+    ceilings, ceilings_stored, ramp, row, step, Brake, Ceilings, Curve, Distances, Stop, Times, Train, CURVES,
+    LONGEST_ROW,
 };
 pub use query::{query, Approach, Mark};
 pub use refusal::Refusal;

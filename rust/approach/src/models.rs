@@ -158,8 +158,17 @@ pub struct Ceilings {
     pub ebi: Ceiling,
 }
 
-/// The ceilings of a permitted speed of 0 to 330 km/h.
-pub fn ceilings(permitted: Kmh) -> Result<Ceilings, Refusal> {
-    let raw::Limits { refusal, w, sbi, ebi } = raw::ceilings(permitted.0);
+fn given(limits: raw::Limits) -> Result<Ceilings, Refusal> {
+    let raw::Limits { refusal, w, sbi, ebi } = limits;
     accepted(refusal, Ceilings { w: Ceiling(w), sbi: Ceiling(sbi), ebi: Ceiling(ebi) })
+}
+
+/// The ceilings of a permitted speed of 0 to 330 km/h, worked out by the paper's rule.
+pub fn ceilings(permitted: Kmh) -> Result<Ceilings, Refusal> {
+    given(raw::ceilings(permitted.0))
+}
+
+/// The same answers, of every number, looked up in a table of 993 numbers: for a maker whose equipment reads stored numbers.
+pub fn ceilings_stored(permitted: Kmh) -> Result<Ceilings, Refusal> {
+    given(raw::ceilings_stored(permitted.0))
 }

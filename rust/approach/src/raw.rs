@@ -172,6 +172,7 @@ extern "C" {
     fn approach_row_p(train: Train, v0: u32, gradient: i32, row: *mut u32, places: usize) -> Written;
     fn approach_ramp(braked_weight: u32, gradient: i32, v: u32, tm: u32, tr: u32) -> Stop;
     fn approach_ceilings(permitted: u32) -> Limits;
+    fn approach_ceilings_stored(permitted: u32) -> Limits;
     fn approach_sheet_write(
         starts: *const u32,
         start_count: usize,
@@ -220,9 +221,14 @@ pub fn ramp(braked_weight: u32, gradient: i32, v: u32, tm: u32, tr: u32) -> Stop
     unsafe { approach_ramp(braked_weight, gradient, v, tm, tr) }
 }
 
-/// The ceilings of a permitted speed in km/h.
+/// The ceilings of a permitted speed in km/h, worked out.
 pub fn ceilings(permitted: u32) -> Limits {
     unsafe { approach_ceilings(permitted) }
+}
+
+/// The ceilings of a permitted speed in km/h, looked up.
+pub fn ceilings_stored(permitted: u32) -> Limits {
+    unsafe { approach_ceilings_stored(permitted) }
 }
 
 /// Writes a line sheet. Starts, places, overlaps and the end are in metres, gradients in per mille.

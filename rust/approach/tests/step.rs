@@ -1,5 +1,7 @@
 //! The library's distances, rows and ceilings against the reference, on accepted and refused inputs.
-use approach::{ceilings, raw, row, step, Brake, Ceilings, Curve, Distances, Refusal, Train, CURVES, LONGEST_ROW};
+use approach::{
+    ceilings, ceilings_stored, raw, row, step, Brake, Ceilings, Curve, Distances, Refusal, Train, CURVES, LONGEST_ROW,
+};
 use approach::{Kmh, Metre, Millimetre, PerMille};
 use inputs::{on_paper, Random};
 use reference::step::in_order;
@@ -164,14 +166,31 @@ fn rows_in_order() {
     assert!(accepted > 300 && places > 10_000, "{accepted} accepted, {places} places");
 }
 
+/// Every permitted speed, each number up to 20,000, what is so much over 2^32/3 or 2^33/3 that three times it, cut to 32 bits,
+/// would again be a place of a table of 993, and others at random.
+fn permitted_speeds() -> Vec<u32> {
+    let thirds = [u32::MAX / 3, u32::MAX / 3 * 2].into_iter().flat_map(|third| third - 5..third + 400);
+    let mut random = Random(17);
+    let others: Vec<u32> = (0..10_000).map(|_| random.below(1 << 32) as u32).collect();
+    (0..=20_000).chain(thirds).chain(others).chain(u32::MAX - 400..=u32::MAX).collect()
+}
+
+/// By either way: worked out, and looked up.
 #[test]
 fn every_ceiling() {
-    for permitted in (0..=400).chain([u32::MAX]) {
-        let answer = ceilings(Kmh(permitted)).map(|Ceilings { w, sbi, ebi }| [w, sbi, ebi].map(|ceiling| ceiling.0));
-        assert_eq!(answer.map_err(Refusal::number), reference::ceilings::ceilings(permitted), "{permitted}");
-        if let Err(refusal) = answer {
-            let zeros = raw::Limits { refusal: refusal.number(), w: 0, sbi: 0, ebi: 0 };
-            assert_eq!(raw::ceilings(permitted), zeros, "{permitted}");
+    let speeds = permitted_speeds();
+    assert!(speeds.len() > 30_000, "{}", speeds.len());
+    for permitted in speeds {
+        let expected = reference::ceilings::ceilings(permitted);
+        for ceilings in [ceilings, ceilings_stored] {
+            let answer =
+                ceilings(Kmh(permitted)).map(|Ceilings { w, sbi, ebi }| [w, sbi, ebi].map(|ceiling| ceiling.0));
+            assert_eq!(answer.map_err(Refusal::number), expected, "{permitted}");
         }
+        let limits = match expected {
+            Ok([w, sbi, ebi]) => raw::Limits { refusal: 0, w, sbi, ebi },
+            Err(refusal) => raw::Limits { refusal, w: 0, sbi: 0, ebi: 0 },
+        };
+        assert_eq!([raw::ceilings(permitted), raw::ceilings_stored(permitted)], [limits; 2], "{permitted}");
     }
 }

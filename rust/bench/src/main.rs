@@ -2,12 +2,13 @@
 //! as one would write it with u128, and the library's own plan with u128.
 mod measures;
 
-use measures::{query, ramp, sheet, step, timing, wide};
+use measures::{ceilings, query, ramp, sheet, step, timing, wide};
 
 fn main() {
     timing::heading("ns, call included", &["plain", "own"]);
     step::measure();
     ramp::measure();
+    ceilings::measure();
     sheet::measure();
     query::measure();
     timing::heading("ns, wide numbers below it", &["plain"]);

@@ -1,5 +1,5 @@
 //! The peers, with which the library's times are compared, against the reference: they must not be fast by being wrong.
-use approach::raw::{Answer, Distances, Signal, Stop, CURVES};
+use approach::raw::{Answer, Distances, Limits, Signal, Stop, CURVES};
 use approach::Kmh;
 use bench::plain::sheet;
 use bench::{own, plain};
@@ -56,6 +56,19 @@ fn ramp_answers() {
         accepted += 1;
     }
     assert!(accepted > 15_000, "{accepted}");
+}
+
+#[test]
+fn ceilings() {
+    for permitted in (0..=1000).chain([u32::MAX]) {
+        let expected = match reference::ceilings::ceilings(permitted) {
+            Ok([w, sbi, ebi]) => Limits { refusal: 0, w, sbi, ebi },
+            Err(refusal) => Limits { refusal, w: 0, sbi: 0, ebi: 0 },
+        };
+        for ceilings in [plain::ceilings::ceilings, plain::ceilings::stored] {
+            assert_eq!(ceilings(permitted), expected, "permitted {permitted}");
+        }
+    }
 }
 
 /// Half of them with a byte changed.

@@ -13,6 +13,7 @@ pub mod natural;
 pub mod ramp;
 pub mod sheet;
 pub mod step;
+pub mod stored;
 pub mod tables;
 pub mod train;
 pub mod units;

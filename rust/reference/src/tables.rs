@@ -6,6 +6,7 @@ use crate::ceilings::ceilings;
 use crate::ramp::{ramp, Stop};
 use crate::sheet::{next, signal, stretch, write, Signal, Stretch};
 use crate::step::{row, step, Curve, CURVES};
+use crate::stored::{looked_up, stored};
 use crate::train::Train;
 use std::fmt::Display;
 
@@ -96,6 +97,16 @@ fn ceilings_table(lines: &mut Lines) {
     for v in 0..=331 {
         let answer = ceilings(v).map(|ceilings| ceilings.map(i64::from));
         lines.word("ceilings").fields([v]).word(" =").answer(answer).word("\n");
+    }
+}
+
+/// Card 6's second way, from the stored numbers alone.
+fn stored_table(lines: &mut Lines) {
+    lines.word("# stored V = refusal W SBI EBI\n");
+    let table = stored();
+    for v in 0..=331 {
+        let answer = looked_up(&table, v).map(|ceilings| ceilings.map(i64::from));
+        lines.word("stored").fields([v]).word(" =").answer(answer).word("\n");
     }
 }
 
@@ -253,6 +264,7 @@ fn query_table(lines: &mut Lines) {
 pub fn printed() -> String {
     let mut lines = Lines(String::new());
     ceilings_table(&mut lines);
+    stored_table(&mut lines);
     step_table(&mut lines);
     row_table(&mut lines);
     ramp_table(&mut lines);

@@ -18,6 +18,7 @@ fn stored_tables() {
 fn refusals_in_the_tables() {
     let wanted = [
         ("ceilings", "0 3"),
+        ("stored", "0 3"),
         ("step", "0 3 4 10"),
         ("row", "0"),
         ("ramp", "0 3 6 10"),

@@ -1,3 +1,4 @@
+pub mod ceilings;
 pub mod query;
 pub mod ramp;
 pub mod sheet;

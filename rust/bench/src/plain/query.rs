@@ -1,5 +1,6 @@
 //! The approach query as one would write it in Rust where train and times are accepted: one pass over the sheet's bytes for its
 //! check, then two climbs over whole numbers. It stands behind a call that is not inlined, as the proved one does.
+use super::ceilings::worked_out;
 use super::sheet::Entry;
 use super::{ramp, sheet, step};
 use approach::raw::{Answer, Train, CURVE, RELEASE};
@@ -46,12 +47,6 @@ impl Plan for Plain {
     }
 }
 
-/// W, SBI and EBI in 120ths of a km/h.
-fn ceilings(permitted: u32) -> [u32; 3] {
-    let over = permitted.saturating_sub(110);
-    [480 + 4 * over.min(30), 600 + 6 * over.min(100), 900 + 9 * over.min(100)].map(|extra| 120 * permitted + extra)
-}
-
 #[inline(always)]
 fn answered<P: Plan>(train: Train, tm: u32, tr: u32, sheet: &[u8], signal: u32, head: u32) -> Result<Answer, u32> {
     let (stretches, signals) = sheet::checked(sheet).ok_or(7u32)?;
@@ -71,7 +66,7 @@ fn answered<P: Plan>(train: Train, tm: u32, tr: u32, sheet: &[u8], signal: u32, 
     }
     let last = P::permitted(course, release, train.top_speed, metres);
     let (permitted, mark) = last.map_or((release, RELEASE), |v| (v, CURVE));
-    let [w, sbi, ebi] = ceilings(permitted);
+    let [w, sbi, ebi] = worked_out(permitted);
     Ok(Answer { refusal: 0, release, permitted, mark, w, sbi, ebi })
 }
 

@@ -1,0 +1,3 @@
+mod Places
+mod Tested
+pub mod Agreement
