@@ -34,8 +34,7 @@ gate: ## everything from nothing, as CI does: proofs, wrong programs, programs, 
 	bash .ci/run
 
 ceilings: ## writes the table of crates/ceilings_stored anew, from the reference
-	$(run) --bin ceilings > target/ceilings.rt
-	mv target/ceilings.rt crates/ceilings_stored/src/table.rt
+	$(run) --bin ceilings > crates/ceilings_stored/src/table.rt
 
 tables: ## writes the stored output of crates/tables anew, from the reference
 	$(run) --bin tables > crates/tables/stdout

@@ -1,5 +1,6 @@
 // The three speed ceilings of a permitted speed. Document 01, "Ceilings"; document 002, section 9.
-// Takes: the units of `train`. Gives: the operation `ceilings`, also to `query`.
+// Takes: the units of `train`. Gives: the operation `ceilings`, also to `query`; its answer and what is promised of it to
+// `ceilings_stored`.
 ghost use mathlib.Core.Path.{_≡_};
 ghost use Prim.Native.Nat.{_≤_};
 ghost use Rattle.ceilings.specs.Ceilings.{Narrow, grownTo, ceilingOf};

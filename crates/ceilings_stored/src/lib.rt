@@ -30,7 +30,7 @@ fn entry(table: &[u16], place: usize) -> Ceiling
     Ceiling(wide(table[place]))
 }
 
-// The three ceilings that a table has for a speed.
+// The three ceilings that a table has for a speed. The table is lent: a constant is written to the stack wherever it is named.
 fn row(table: &[u16], speed: usize) -> Limits
     requires { ⌜ Ruled (now table) × (3 * speed + 2 < length (now table)) ⌝ }
     ensures { λ r. ⌜ r ≡ given (kmh speed) ⌝ }

@@ -1,2 +1,3 @@
 // Lists by their places: definitions in specs/, laws in proofs/, no code.
-// Takes: nothing. Gives: rows, tables of records and lists laid over others, to rows, sheets and climbs.
+// Takes: nothing. Gives: rows, tables of records, lists laid over others and rules of constant tables, to rows, sheets, climbs and
+// `ceilings_stored`.
