@@ -44,7 +44,7 @@ struct approach_train {
     bool freight;           /* brake type: freight, else passenger */
     bool electropneumatic;  /* whether its electropneumatic brake is working */
     uint32_t braked_weight; /* braked weight percentage, 45 to 160 in steps of 5 */
-    uint32_t length;        /* metres, 0 to 1,000 */
+    uint32_t length;        /* metres, 0 to 1,000; in a query gradients count from the tail, so much behind the head */
     uint32_t top_speed;     /* km/h of the service regime, 1 to 330 */
 };
 
@@ -189,7 +189,9 @@ struct approach_signal approach_sheet_signal(const uint8_t *sheet, size_t length
 struct approach_move approach_sheet_next(const uint8_t *sheet, size_t length, struct approach_mark mark);
 
 /* The approach to the signal of a number, from 0, with the head at a place in metres. The train brakes to the release speed on
- * the least gradient from the head to the signal, and past the signal on the least along the overlap; TM and TR as above. */
+ * the least gradient from its tail to the signal, and past the signal on the least from where its tail is with the head at the
+ * signal up to the overlap's end. The tail is the train's length behind the head, or at 0 where there is less of the line behind
+ * it; TM and TR as above. */
 struct approach_answer approach_query(
     struct approach_train train, uint32_t tm, uint32_t tr, const uint8_t *sheet, size_t length, uint32_t signal, uint32_t head);
 

@@ -1,4 +1,4 @@
--- Two accepted sheets that agree on the chosen signal and on the gradient at each point of the span get the same answer.
+-- Two accepted sheets that agree on the chosen signal and on the gradient at each point of the span, from the tail on, get the same answer.
 use mathlib.Core.Path.{_≡_, refl, sym, ap, _∙_}
 use mathlib.Core.Bool.{true, false, cond}
 use mathlib.Core.List.{List, _++_}
@@ -30,7 +30,7 @@ module _ (k : Coefficients) (t : Train) (tm tr : ℕ) (s z : List ℕ) (i j head
       let n = firstOf ((trainRefusals t ++ (timeRefusals tm tr ++ r)) ++ brakeRefusals k t tm tr w) in
       cond (eqb n 0) (accepted k t tm tr w) (refused n)
 
-  module _ (is : sheet.accepted s ≡ true) (other : sheet.accepted z ≡ true) (first : i < lineOf s .signals) (second : j < lineOf z .signals) (a : Agree (lineOf s) (lineOf z) i j head) where
+  module _ (is : sheet.accepted s ≡ true) (other : sheet.accepted z ≡ true) (first : i < lineOf s .signals) (second : j < lineOf z .signals) (a : Agree (lineOf s) (lineOf z) i j head (t .length .0)) where
     same-refusals : wayRefusals s i head ≡ wayRefusals z j head
     same-refusals = rw (is, other, lt-leb _ _ first, lt-leb _ _ second, a .place) refl
 
@@ -39,7 +39,7 @@ module _ (k : Coefficients) (t : Train) (tm tr : ℕ) (s z : List ℕ) (i j head
 
     same-on-way : head ≤ lineOf s .place i → answerOf k t tm tr s i head ≡ answerOf k t tm tr z j head
     unfolding answerOf
-    same-on-way h = ap (λ r. from r (wayTo s i head)) same-refusals ∙ ap (from (wayRefusals z j head)) (same-way (lineOf s) (lineOf z) i j head a h)
+    same-on-way h = ap (λ r. from r (wayTo t s i head)) same-refusals ∙ ap (from (wayRefusals z j head)) (same-way (lineOf s) (lineOf z) i j head (t .length .0) a h)
 
     same-beyond : lineOf s .place i < head → answerOf k t tm tr s i head ≡ answerOf k t tm tr z j head
     same-beyond h =

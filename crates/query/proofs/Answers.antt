@@ -89,7 +89,7 @@ module _ (t : Train) (tm tr : ℕ) (s : List ℕ) (signal head : ℕ) where
       by-way : firstOf (inputs t tm tr s signal head) ≡ firstOf (wayRefusals s signal head)
       by-way = later ∙ first-after 0 (timeRefusals tm tr) (wayRefusals s signal head) (times-rising tm tr) late
 
-      pub started : (r : Found) → Finds s signal head r → Starts t tm tr s signal head r
+      pub started : (r : Found) → Finds s signal head (t .length .0) r → Starts t tm tr s signal head r
       started (Refused n) i = (i .says, by-way ∙ i .refused)
       started (Ready w) i =
           let y = i .says in record { accepted = by-way ∙ i .refused; way = y .way; leads = y .leads; fit = record { train = z; times = late; ahead = y .ahead; past = y .past } }
@@ -99,7 +99,7 @@ module _ (k : Coefficients) (t : Train) (tm tr : ℕ) (s : List ℕ) (signal hea
   Answers r = QueryAnswers k t tm tr s signal head r s
 
   pub inputs-rising : Rising 1 (inputs t tm tr s signal head)
-  inputs-rising = rising-before 1 (inputs t tm tr s signal head) (brakeRefusals k t tm tr (wayTo s signal head)) (query-rising k t tm tr s signal head)
+  inputs-rising = rising-before 1 (inputs t tm tr s signal head) (brakeRefusals k t tm tr (wayTo t s signal head)) (query-rising k t tm tr s signal head)
 
   inputs-judge : Judges (inputRules k t tm tr s signal head) (inputs t tm tr s signal head)
   inputs-judge =
@@ -118,12 +118,12 @@ module _ (k : Coefficients) (t : Train) (tm tr : ℕ) (s : List ℕ) (signal hea
 
   pub by-inputs : (n : ℕ) → 0 < n → firstOf (inputs t tm tr s signal head) ≡ n → Answers (refused n)
   by-inputs n l e =
-      refused-by n l (first-before (inputs t tm tr s signal head) (brakeRefusals k t tm tr (wayTo s signal head)) (λ i. omega arith) ∙ e)
+      refused-by n l (first-before (inputs t tm tr s signal head) (brakeRefusals k t tm tr (wayTo t s signal head)) (λ i. omega arith) ∙ e)
       (before-more (inputRules k t tm tr s signal head) (brakeRules k t tm tr s signal head) n l (told inputs-judge (sym e) .1))
 
-  module _ (z : firstOf (inputs t tm tr s signal head) ≡ 0) (f : Fit t tm tr (wayTo s signal head)) (leads : Leads (lineOf s) signal head (wayTo s signal head)) (within : Within k) (steady : Steady k) where
+  module _ (z : firstOf (inputs t tm tr s signal head) ≡ 0) (f : Fit t tm tr (wayTo t s signal head)) (leads : Leads (lineOf s) signal head (t .length .0) (wayTo t s signal head)) (within : Within k) (steady : Steady k) where
     abbrev w : Way
-    w = wayTo s signal head
+    w = wayTo t s signal head
 
     abbrev weak : Bool
     weak = weakPast k (pastAt t tm tr w 1) (w .overlap)

@@ -1,4 +1,4 @@
--- Document 01, "Approach" and "What is turned away": what the query answers, and what it promises.
+-- Document 01, "Approach" and "What is turned away"; document 02, Card 2: what the query answers, and what it promises.
 use mathlib.Core.Path.{_≡_}
 use mathlib.Core.Bool.{not, cond}
 use mathlib.Core.List.{List, [], _∷_, _++_}
@@ -48,16 +48,16 @@ module _ (k : Coefficients) (t : Train) (tm tr : ℕ) (w : Way) where
 abbrev pub inputs : Train → ℕ → ℕ → List ℕ → ℕ → ℕ → List Refusal
 inputs t tm tr s signal head = trainRefusals t ++ (timeRefusals tm tr ++ wayRefusals s signal head)
 
--- what the sheet says of the way
-abbrev pub wayTo : List ℕ → ℕ → ℕ → Way
-wayTo s signal head = wayOf (lineOf s) signal head
+-- what the sheet says of the train's way
+abbrev pub wayTo : Train → List ℕ → ℕ → ℕ → Way
+wayTo t s signal head = wayOf (lineOf s) signal head (t .length .0)
 
 module _ (k : Coefficients) (t : Train) (tm tr : ℕ) (s : List ℕ) (signal head : ℕ) where
   abbrev pub queryRefusals : List Refusal
-  queryRefusals = inputs t tm tr s signal head ++ brakeRefusals k t tm tr (wayTo s signal head)
+  queryRefusals = inputs t tm tr s signal head ++ brakeRefusals k t tm tr (wayTo t s signal head)
 
   unfoldable pub answerOf : Answer
-  answerOf = cond (eqb (firstOf queryRefusals) 0) (accepted k t tm tr (wayTo s signal head)) (refused (firstOf queryRefusals))
+  answerOf = cond (eqb (firstOf queryRefusals) 0) (accepted k t tm tr (wayTo t s signal head)) (refused (firstOf queryRefusals))
 
   -- what the query promises: the answer by definition; the first demand; what is turned away; of every accepted answer the third
   -- demand on the way that the sheet says, and the paper's ceilings
@@ -65,5 +65,5 @@ module _ (k : Coefficients) (t : Train) (tm tr : ℕ) (s : List ℕ) (signal hea
     pub answer : r ≡ answerOf
     pub lent : FirstDemand (r .refusal) (r .release .0 ∷ r .permitted .0 ∷ r .mark ∷ r .w .0 ∷ r .sbi .0 ∷ r .ebi .0 ∷ []) s after 0
     pub spans : Judged (queryRules k t tm tr s signal head) (r .refusal)
-    pub demand : r .refusal ≡ 0 → On s signal head (λ w. Demand k t tm tr w (r .release .0) (r .permitted .0) (r .mark))
+    pub demand : r .refusal ≡ 0 → On t s signal head (λ w. Demand k t tm tr w (r .release .0) (r .permitted .0) (r .mark))
     pub ceilings : r .refusal ≡ 0 → AsPrinted (r .permitted) (record { refusal = 0; w = r .w; sbi = r .sbi; ebi = r .ebi })

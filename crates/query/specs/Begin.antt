@@ -41,8 +41,8 @@ pub record FitAhead (t : Train) (g : Gradient) (release : Kmh) : Type 0 where
 module _ (t : Train) (tm tr : ℕ) (s : List ℕ) (signal head : ℕ) where
   pub record IsReady (w : Way) : Type 0 where
     pub accepted : firstOf (inputs t tm tr s signal head) ≡ 0
-    pub way : w ≡ wayTo s signal head
-    pub leads : Leads (lineOf s) signal head w
+    pub way : w ≡ wayTo t s signal head
+    pub leads : Leads (lineOf s) signal head (t .length .0) w
     pub fit : Fit t tm tr w
 
   abbrev pub Starts : Found → Type 0

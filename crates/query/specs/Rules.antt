@@ -12,9 +12,9 @@ use Rattle.query_way.specs.declared.Way.{Way}
 use Rattle.query_way.specs.Way.{wayRules, Leads}
 use Rattle.query.specs.Demand.{brakingPast, brakingAhead, Creeps, Enough}
 
--- something is so of the way from the head to the signal
-abbrev pub On : List ℕ → ℕ → ℕ → (Way → Type 0) → Type 0
-On s signal head P = (w : Way) × (Leads (lineOf s) signal head w × P w)
+-- something is so of the train's way to the signal and past it
+abbrev pub On : Train → List ℕ → ℕ → ℕ → (Way → Type 0) → Type 0
+On t s signal head P = (w : Way) × (Leads (lineOf s) signal head (t .length .0) w × P w)
 
 module _ (k : Coefficients) (t : Train) (tm tr : ℕ) where
   -- some release speed at which the brake has enough; the answer's own stands in the third demand
@@ -31,7 +31,7 @@ module _ (k : Coefficients) (t : Train) (tm tr : ℕ) where
     inputRules = trainRules t ++ (timesRule tm tr ∷ wayRules s signal head)
 
     abbrev pub brakeRules : List Rule
-    brakeRules = record { number = 10; kept = On s signal head Strong; broken = On s signal head TooWeak } ∷ []
+    brakeRules = record { number = 10; kept = On t s signal head Strong; broken = On t s signal head TooWeak } ∷ []
 
     abbrev pub queryRules : List Rule
     queryRules = inputRules ++ brakeRules

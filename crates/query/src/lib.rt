@@ -1,4 +1,5 @@
-// The approach query: how fast a train may come up to a closed signal, and how fast it may creep past. Document 01, "Approach".
+// The approach query: how fast a train may come up to a closed signal, and how fast it may creep past. Document 01, "Approach";
+// document 02, Card 2.
 // Takes: `query_way`, `query_release`, `query_permitted`, `ramp` for refusal 6, `ceilings`. Gives: the operation `query`, and the
 // third demand.
 ghost use mathlib.Core.Path.{_≡_};
@@ -77,7 +78,7 @@ fn start(train: Train, tm: u32, tr: u32, s: &[u8], signal: u32, head: Metre) -> 
     if late > 0 {
         return Found::Refused(late);
     }
-    query_way::find(s, signal, head)
+    query_way::find(s, signal, head, train.length)
 }
 
 // The answer with a release speed.

@@ -1,12 +1,13 @@
--- A line that rises and falls, by the definitions: the gradients of its ways.
+-- A line that rises and falls, by the definitions: the gradients of its ways, and that agreement from the head on does not settle them.
 use mathlib.Core.Path.{_≡_, refl}
 use mathlib.Core.List.{List, [], _∷_}
-use Prim.Native.Nat.{ℕ}
+use Prim.Native.Nat.{ℕ, _≤_}
+use borrow.Author.Tests.{le-leb}
 use Rattle.train.specs.declared.Gradient.{Gradient}
 use Rattle.train.specs.Units.{metres}
 use Rattle.sheet_line.specs.Bytes.{u16At, u32At, signed}
 use Rattle.sheet.specs.Sheet.{lineOf}
-use Rattle.sheet_span.specs.Least.{slopeUpTo, leastOf}
+use Rattle.sheet_span.specs.Least.{slopeUpTo, slopeAt, leastOf}
 use Rattle.query_way.specs.declared.Way.{Way}
 use Rattle.query_way.specs.Way.{pastOf, wayOf}
 
@@ -20,11 +21,37 @@ hilly =
     ∷ 9 ∷ 0 ∷ 0 ∷ 0 ∷ 236 ∷ 255
     ∷ 6 ∷ 0 ∷ 0 ∷ 0 ∷ 3 ∷ 0 ∷ []
 
-abbrev leads : ℕ → Gradient → Way
-leads distance ahead = record { distance = metres distance; ahead = ahead; overlap = metres 3; past = record { rise = 3; fall = 0 } }
+abbrev leads : ℕ → Gradient → Gradient → Way
+leads distance ahead past = record { distance = metres distance; ahead = ahead; overlap = metres 3; past = past }
 
--- from 0 and from 5 the fall of 5 is the least ahead, from the signal itself its own stretch; past it neither the fall before nor the one
--- behind
-pub ways : (wayOf (lineOf hilly) 0 0 ≡ leads 6 (record { rise = 0; fall = 5 })) × ((wayOf (lineOf hilly) 0 5 ≡ leads 1 (record { rise = 0; fall = 5 })) × (wayOf (lineOf hilly) 0 6 ≡ leads 0 (record { rise = 3; fall = 0 })))
+abbrev up : ℕ → Gradient
+up n = record { rise = n; fall = 0 }
+
+abbrev down : ℕ → Gradient
+down n = record { rise = 0; fall = n }
+
+-- head, L, and the way: distance, gradient ahead, gradient of the overlap
+abbrev Goes : ℕ → ℕ → Way → Type 0
+Goes head length w = wayOf (lineOf hilly) 0 head length ≡ w
+
+-- Without a length: from 0 and from 5 the fall of 5 is the least ahead, from the signal itself its own stretch; past it neither the fall
+-- before nor the one behind. With 1 m the tail stands on the fall as the head is at the signal. From 6 a tail of 3 m is on the fall's
+-- first point; one of 6 m at 0, and so is every longer one.
+pub ways : Goes 0 0 (leads 6 (down 5) (up 3)) × (Goes 5 0 (leads 1 (down 5) (up 3)) × (Goes 6 0 (leads 0 (up 3) (up 3)) × (Goes 6 1 (leads 0 (down 5) (down 5)) × (Goes 6 3 (leads 0 (down 5) (down 5)) × (Goes 2 6 (leads 4 (down 5) (down 5)) × Goes 6 1000 (leads 0 (down 5) (down 5)))))))
 unfolding wayOf pastOf leastOf slopeUpTo u32At u16At signed
-ways = (refl, (refl, refl))
+ways = (refl, (refl, (refl, (refl, (refl, (refl, refl))))))
+
+-- the same line without its fall before the signal
+abbrev eased : List ℕ
+eased =
+    4 ∷ 0 ∷ 1 ∷ 0 ∷ 20 ∷ 0 ∷ 0 ∷ 0 ∷ 44 ∷ 0 ∷ 0 ∷ 0 ∷ 50 ∷ 0 ∷ 0 ∷ 0 ∷ 12 ∷ 0 ∷ 0 ∷ 0
+    ∷ 0 ∷ 0 ∷ 0 ∷ 0 ∷ 10 ∷ 0
+    ∷ 3 ∷ 0 ∷ 0 ∷ 0 ∷ 4 ∷ 0
+    ∷ 6 ∷ 0 ∷ 0 ∷ 0 ∷ 3 ∷ 0
+    ∷ 9 ∷ 0 ∷ 0 ∷ 0 ∷ 236 ∷ 255
+    ∷ 6 ∷ 0 ∷ 0 ∷ 0 ∷ 3 ∷ 0 ∷ []
+
+-- it is not enough to agree from the head on: with the head at 6 and an L of 1 the two ways differ
+pub not-from-the-head : ((p : ℕ) → 6 ≤ p → slopeAt (lineOf hilly) p ≡ slopeAt (lineOf eased) p) × (wayOf (lineOf eased) 0 6 1 ≡ leads 0 (up 3) (up 3))
+unfolding wayOf pastOf leastOf slopeUpTo u32At u16At signed
+not-from-the-head = ((λ p h. rw (le-leb 6 p h) refl), refl)

@@ -5,7 +5,7 @@ use mathlib.Core.List.{List, [], _∷_}
 use Prim.Native.Nat.{ℕ, _+_, _-_, _≤_, _<_}
 use native.Mathlib.Omega.{arith}
 use borrow.Author.Tests.{lt-leb, lt-ltb, le-ltb, ne-eqb}
-use mathlib.Core.Logic.{⊎-elim}
+use mathlib.Core.Logic.{inl, inr, ⊎-elim}
 use lib.Dec.{ltb, lit≤}
 use Rattle.lists.proofs.Split.{below, earlier}
 use Rattle.train.specs.declared.Gradient.{Gradient}
@@ -21,9 +21,9 @@ use Rattle.sheet.proofs.Kept.{headed-of, sheet-settles}
 use Rattle.sheet.specs.Kept.{Kept}
 use Rattle.sheet_lookup.specs.Answer.{readRefusals, signalOf}
 use Rattle.sheet_lookup.proofs.Read.{read-refusal}
-use Rattle.sheet_span.specs.Least.{leastOver, LeastOver}
+use Rattle.sheet_span.specs.Least.{slopeAt, leastOver, LeastOver}
 use Rattle.sheet_span.proofs.Points.{same-least}
-use Rattle.query_way.specs.Way.{wayRefusals, wayRules, pastOf, wayOf, Leads, Agree}
+use Rattle.query_way.specs.Way.{wayRefusals, wayRules, tailOf, pastOf, wayOf, Behind, Leads, Agree}
 use Rattle.query_way.specs.Find.{refusal, Slope, Past}
 
 -- the least is some stretch's
@@ -46,57 +46,78 @@ module _ (s : List ℕ) (k head : ℕ) where
     pub on-line : (lineOf s .place k < lineOf s .end) × (lineOf s .place k + lineOf s .overlap k ≤ lineOf s .end)
     on-line = headed-of s e .1 .signals .each k h
 
+-- the tail is where it is, in words of their own
+tail-behind : (place length : ℕ) → Behind place length (tailOf place length)
+tail-behind place length = ⊎-elim (λ h. inr (h, omega arith)) (λ h. inl (omega arith)) (below place length)
+
 -- the gradient of an overlap
-module _ (l : Line) (place overlap : ℕ) where
-  past-none : overlap ≡ 0 → pastOf l place overlap ≡ record { rise = 0; fall = 0 }
+module _ (l : Line) (place overlap length : ℕ) where
+  past-none : overlap ≡ 0 → pastOf l place overlap length ≡ record { rise = 0; fall = 0 }
   unfolding pastOf
   past-none e = rw e refl
 
-  past-is : 0 < overlap → pastOf l place overlap ≡ leastOver l place (place + overlap)
+  past-is : 0 < overlap → pastOf l place overlap length ≡ leastOver l (tailOf place length) (place + overlap)
   unfolding pastOf
   past-is h = rw (ne-eqb overlap 0 (λ e. omega arith)) refl
 
-  pub no-overlap : overlap ≡ 0 → Past l place overlap (record { rise = 0; fall = 0 })
+  pub no-overlap : overlap ≡ 0 → Past l place overlap length (record { rise = 0; fall = 0 })
   no-overlap e = record { value = sym (past-none e); moderate = record { rise = lit≤ tt; fall = lit≤ tt }; least = λ h. absurd (let i : ⊥ = omega arith in i) }
 
-  pub some-overlap : (g : Gradient) → Kept l → 0 < overlap → LeastOver l place (place + overlap) g → Past l place overlap g
-  some-overlap g k h o = record { value = o .value ∙ sym (past-is h); moderate = slope-of l place (place + overlap) g k o .moderate; least = λ i. o }
+  pub some-overlap : (g : Gradient) → Kept l → 0 < overlap → LeastOver l (tailOf place length) (place + overlap) g → Past l place overlap length g
+  some-overlap g k h o =
+      record { value = o .value ∙ sym (past-is h); moderate = slope-of l (tailOf place length) (place + overlap) g k o .moderate; least = λ i. o }
+
+-- lines with the same gradient at each point of a span have the same least over it
+same-over : (l m : Line) (from to : ℕ) → from < to → ((p : ℕ) → from ≤ p → p < to → slopeAt l p ≡ slopeAt m p) → leastOver l from to ≡ leastOver m from to
+same-over l m from to h f = same-least l m from (to - from - 1) (λ n b. f (from + n) (omega arith) (omega arith))
 
 -- lines that agree have the same way, where the head is not beyond the signal
-module _ (l m : Line) (i j head : ℕ) (a : Agree l m i j head) (h : head ≤ l .place i) where
+module _ (l m : Line) (i j head length : ℕ) (a : Agree l m i j head length) (h : head ≤ l .place i) where
   abbrev place : ℕ
   place = l .place i
 
   abbrev overlap : ℕ
   overlap = l .overlap i
 
-  same-past : pastOf l place overlap ≡ pastOf m place overlap
+  same-past : pastOf l place overlap length ≡ pastOf m place overlap length
   same-past =
       ⊎-elim
-      (λ o. past-is l place overlap o ∙ same-least l m place (place + overlap - place - 1) (λ n b. a .gradient (place + n) (omega arith) (omega arith)) ∙ sym (past-is m place overlap o))
-      (λ e. let z : overlap ≡ 0 = omega arith in past-none l place overlap z ∙ sym (past-none m place overlap z))
+      (λ o. past-is l place overlap length o ∙ same-over l m (tailOf place length) (place + overlap) (omega arith) (λ p b c. a .gradient p (omega arith) c) ∙ sym (past-is m place overlap length o))
+      (λ e. let z : overlap ≡ 0 = omega arith in past-none l place overlap length z ∙ sym (past-none m place overlap length z))
       (below 0 overlap)
 
-  same-ahead : leastOver l head (place + 1) ≡ leastOver m head (place + 1)
+  same-ahead : leastOver l (tailOf head length) (place + 1) ≡ leastOver m (tailOf head length) (place + 1)
   same-ahead =
-      same-least l m head (place + 1 - head - 1)
-      (λ n b. ⊎-elim (λ o. a .gradient (head + n) (omega arith) (omega arith)) (λ e. let z : head + n ≡ place = omega arith in rw z (a .own)) (earlier (head + n) place (omega arith)))
+      same-over l m (tailOf head length) (place + 1) (omega arith)
+      (λ p b c. ⊎-elim (λ o. a .gradient p (omega arith) (omega arith)) (λ e. rw e (a .own)) (earlier p place (omega arith)))
 
-  pub same-way : wayOf l i head ≡ wayOf m j head
+  pub same-way : wayOf l i head length ≡ wayOf m j head length
   unfolding wayOf
   same-way = rw (← a .place, ← a .overlap, same-ahead, same-past) refl
 
 -- the way of what the code has read and found
-pub way-of : (l : Line) (k head : ℕ) (place overlap : Metre) (ahead past : Gradient) → place ≡ metres (l .place k) → overlap ≡ metres (l .overlap k) → ahead ≡ leastOver l head (place .0 + 1) → past ≡ pastOf l (place .0) (overlap .0) → record { distance = metres (place .0 - head); ahead = ahead; overlap = overlap; past = past } ≡ wayOf l k head
+pub way-of : (l : Line) (k head length : ℕ) (place overlap : Metre) (ahead past : Gradient) → place ≡ metres (l .place k) → overlap ≡ metres (l .overlap k) → ahead ≡ leastOver l (tailOf head length) (place .0 + 1) → past ≡ pastOf l (place .0) (overlap .0) length → record { distance = metres (place .0 - head); ahead = ahead; overlap = overlap; past = past } ≡ wayOf l k head length
 unfolding wayOf
-way-of l k head place overlap ahead past e f a b = rw (a, b, e, f) refl
+way-of l k head length place overlap ahead past e f a b = rw (a, b, e, f) refl
 
 -- and that way leads to the signal
-pub leads-of : (l : Line) (k head : ℕ) (place overlap : Metre) (ahead past : Gradient) → place ≡ metres (l .place k) → overlap ≡ metres (l .overlap k) → head ≤ place .0 → Slope l head (place .0 + 1) ahead → Past l (place .0) (overlap .0) past → Leads l k head (record { distance = metres (place .0 - head); ahead = ahead; overlap = overlap; past = past })
-leads-of l k head place overlap ahead past e f h a b =
+pub leads-of : (l : Line) (k head length : ℕ) (place overlap : Metre) (ahead past : Gradient) → place ≡ metres (l .place k) → overlap ≡ metres (l .overlap k) → head ≤ place .0 → Slope l (tailOf head length) (place .0 + 1) ahead → Past l (place .0) (overlap .0) length past → Leads l k head length (record { distance = metres (place .0 - head); ahead = ahead; overlap = overlap; past = past })
+leads-of l k head length place overlap ahead past e f h a b =
     let p : place .0 ≡ l .place k = ap (λ (m : Metre). m .0) e in
     let o : overlap .0 ≡ l .overlap k = ap (λ (m : Metre). m .0) f in
-    record { signal = omega (arith, p); overlap = o; ahead = subst (λ x. LeastOver l head (x + 1) ahead) p (a .least); past = λ i. subst (λ x. LeastOver l x (x + l .overlap k) past) p (subst (λ y. LeastOver l (place .0) (place .0 + y) past) o (b .least i)) }
+    record {
+      signal = omega (arith, p);
+      overlap = o;
+      ahead = (tailOf head length, (tail-behind head length, subst (λ x. LeastOver l (tailOf head length) (x + 1) ahead) p (a .least)));
+      past =
+          λ i. (
+            tailOf (l .place k) length,
+            (
+              tail-behind (l .place k) length,
+              subst (λ x. LeastOver l (tailOf x length) (x + l .overlap k) past) p (subst (λ y. LeastOver l (tailOf (place .0) length) (place .0 + y) past) o (b .least i)),
+            ),
+          );
+    }
 
 -- the conditions decide by the rules
 pub way-judges : (s : List ℕ) (k head : ℕ) → Judges (wayRules s k head) (wayRefusals s k head)

@@ -12,7 +12,7 @@ use Rattle.sheet_span.specs.Least.{LeastOver}
 use Rattle.query_way.specs.declared.Way.{Way}
 use Rattle.query_way.specs.declared.Found.{Found}
 use Rattle.query_way.specs.declared.Found.the-variants.{Refused, Ready}
-use Rattle.query_way.specs.Way.{wayRefusals, wayRules, pastOf, wayOf, Leads}
+use Rattle.query_way.specs.Way.{wayRefusals, wayRules, tailOf, pastOf, wayOf, Leads}
 
 -- the gradient of a span
 pub record Slope (l : Line) (from to : ℕ) (r : Gradient) : Type 0 where
@@ -20,31 +20,32 @@ pub record Slope (l : Line) (from to : ℕ) (r : Gradient) : Type 0 where
   pub moderate : Moderate r
 
 -- the gradient of an overlap
-pub record Past (l : Line) (place overlap : ℕ) (r : Gradient) : Type 0 where
-  pub value : r ≡ pastOf l place overlap
+pub record Past (l : Line) (place overlap length : ℕ) (r : Gradient) : Type 0 where
+  pub value : r ≡ pastOf l place overlap length
   pub moderate : Moderate r
-  pub least : 0 < overlap → LeastOver l place (place + overlap) r
+  pub least : 0 < overlap → LeastOver l (tailOf place length) (place + overlap) r
 
-module _ (s : List ℕ) (signal head : ℕ) where
-  abbrev pub refusal : ℕ
-  refusal = firstOf (wayRefusals s signal head)
+abbrev pub refusal : List ℕ → ℕ → ℕ → ℕ
+refusal s signal head = firstOf (wayRefusals s signal head)
 
+-- document 01's number for each case
+abbrev pub number : Found → ℕ
+number (Refused n) = n
+number (Ready w) = 0
+
+module _ (s : List ℕ) (signal head length : ℕ) where
   pub record IsWay (w : Way) : Type 0 where
-    pub way : w ≡ wayOf (lineOf s) signal head
-    pub leads : Leads (lineOf s) signal head w
+    pub way : w ≡ wayOf (lineOf s) signal head length
+    pub leads : Leads (lineOf s) signal head length w
     pub ahead : Moderate (w .ahead)
     pub past : Moderate (w .past)
 
-  -- document 01's number for each case, and what it says
-  abbrev pub number : Found → ℕ
-  number (Refused n) = n
-  number (Ready w) = 0
-
+  -- and what it says
   abbrev pub Says : Found → Type 0
   Says (Refused n) = 0 < n
   Says (Ready w) = IsWay w
 
   pub record Finds (r : Found) : Type 0 where
-    pub refused : refusal ≡ number r
+    pub refused : refusal s signal head ≡ number r
     pub spans : Judged (wayRules s signal head) (number r)
     pub says : Says r

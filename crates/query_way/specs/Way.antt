@@ -1,7 +1,9 @@
--- Document 01, "Approach" and "What is turned away": the way to a signal and past it, and when two lines agree on it.
+-- Document 01, "Approach" and "What is turned away"; document 02, Card 2, the tail on the hill: the way to a signal and past it, and when
+-- two lines agree on it.
 use mathlib.Core.Path.{_≡_}
 use mathlib.Core.Bool.{not, cond}
 use mathlib.Core.List.{List, [], _∷_}
+use mathlib.Core.Logic.{_⊎_}
 use Prim.Native.Nat.{ℕ, _+_, _-_, _≤_, _<_}
 use lib.Dec.{leb, ltb, eqb}
 use Rattle.train.specs.declared.Gradient.{Gradient}
@@ -22,29 +24,44 @@ wayRefusals s k head = let l = lineOf s in not (accepted s) gives 7 ∷ leb (l .
 abbrev pub wayRules : List ℕ → ℕ → ℕ → List Rule
 wayRules s k head = let l = lineOf s in sheetRule s ∷ 8 keeps (k < l .signals) ∷ 9 keeps (head ≤ l .place k) ∷ []
 
--- the gradient of the overlap: the least over the points from the signal up to but not including the overlap's end.
+-- Card 2: where the tail of a train is whose head is at a place: at that place less the train's length, L, or at 0 if that is lower.
+-- A difference of natural numbers is 0 where it would be lower.
+abbrev pub tailOf : ℕ → ℕ → ℕ
+tailOf place length = place - length
+
+-- the gradient of the overlap: the least over the points from signal less L up to but not including the overlap's end.
 -- An overlap of no length has none; nothing asks for it then.
-unfoldable pub pastOf : Line → ℕ → ℕ → Gradient
-pastOf l place overlap = cond (eqb overlap 0) (record { rise = 0; fall = 0 }) (leastOver l place (place + overlap))
+unfoldable pub pastOf : Line → ℕ → ℕ → ℕ → Gradient
+pastOf l place overlap length = cond (eqb overlap 0) (record { rise = 0; fall = 0 }) (leastOver l (tailOf place length) (place + overlap))
 
--- the k-th signal, from 0; the gradient ahead is the least over the points from head to signal, both included
-unfoldable pub wayOf : Line → ℕ → ℕ → Way
-wayOf l k head =
-    record { distance = metres (l .place k - head); ahead = leastOver l head (l .place k + 1); overlap = metres (l .overlap k); past = pastOf l (l .place k) (l .overlap k) }
+-- the k-th signal, from 0; the gradient ahead is the least over the points from head less L to signal, both included
+unfoldable pub wayOf : Line → ℕ → ℕ → ℕ → Way
+wayOf l k head length =
+    record {
+      distance = metres (l .place k - head);
+      ahead = leastOver l (tailOf head length) (l .place k + 1);
+      overlap = metres (l .overlap k);
+      past = pastOf l (l .place k) (l .overlap k) length;
+    }
 
--- In words of its own, what the way is, whatever stands for it: the signal is the distance ahead of the head, the overlap is the line's,
--- the gradient ahead is the least over the points from head to signal, both included, and that of an overlap which has a length the
--- least over its points.
-pub record Leads (l : Line) (k head : ℕ) (w : Way) : Type 0 where
+-- In words of its own, where the tail is: the train reaches from it to the place of its head, or is longer than the line is there and
+-- begins at 0.
+abbrev pub Behind : ℕ → ℕ → ℕ → Type 0
+Behind place length tail = (tail + length ≡ place) ⊎ ((place < length) × (tail ≡ 0))
+
+-- And what the way is, whatever stands for it: the signal is the distance ahead of the head, the overlap is the line's, the gradient
+-- ahead is the least over the points from the tail to the signal, both included, and that of an overlap which has a length the least
+-- over the points from where the tail is with the head at the signal, up to but not including its end.
+pub record Leads (l : Line) (k head length : ℕ) (w : Way) : Type 0 where
   pub signal : head + w .distance .0 ≡ l .place k
   pub overlap : w .overlap .0 ≡ l .overlap k
-  pub ahead : LeastOver l head (l .place k + 1) (w .ahead)
-  pub past : 0 < w .overlap .0 → LeastOver l (l .place k) (l .place k + l .overlap k) (w .past)
+  pub ahead : (tail : ℕ) × (Behind head length tail × LeastOver l tail (l .place k + 1) (w .ahead))
+  pub past : 0 < w .overlap .0 → (tail : ℕ) × (Behind (l .place k) length tail × LeastOver l tail (l .place k + l .overlap k) (w .past))
 
--- two lines agree on a signal each, and on the gradient at each point from head up to but not including the overlap's end,
--- the signal's own point always included
-pub record Agree (l m : Line) (i j head : ℕ) : Type 0 where
+-- Card 2: two lines agree on a signal each, and on the gradient at each point from the start of the gradient ahead, so at each p to which
+-- the train reaches back, up to but not including the overlap's end, the signal's own point always included
+pub record Agree (l m : Line) (i j head length : ℕ) : Type 0 where
   pub place : l .place i ≡ m .place j
   pub overlap : l .overlap i ≡ m .overlap j
-  pub gradient : (p : ℕ) → head ≤ p → p < l .place i + l .overlap i → slopeAt l p ≡ slopeAt m p
+  pub gradient : (p : ℕ) → head ≤ p + length → p < l .place i + l .overlap i → slopeAt l p ≡ slopeAt m p
   pub own : slopeAt l (l .place i) ≡ slopeAt m (l .place i)

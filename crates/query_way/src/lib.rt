@@ -1,14 +1,16 @@
-// What a sheet says of the way to a signal and past it. Document 01, "Approach".
+// What a sheet says of the way to a signal and past it. Document 01, "Approach"; document 02, Card 2.
 // Takes: `sheet_lookup`, `sheet_span`. Gives: `find`, refusals 7, 8, 9 or the way, to `query`.
 ghost use mathlib.Core.Path.{_≡_};
 ghost use mathlib.Core.Bool.{true};
 ghost use Prim.Native.Nat.{_+_, _≤_, _<_};
 ghost use Rattle.sheet.specs.Sheet.{lineOf, accepted};
+ghost use Rattle.query_way.specs.Way.{tailOf};
 ghost use Rattle.query_way.specs.Find.{Finds, Slope, Past};
 use train::Gradient;
 use train::Metre;
 
-// How far the signal is from the head, and the least gradient on the way; the overlap, and the least gradient along it.
+// How far the signal is from the head, and the least gradient from the tail to the signal; the overlap, and the least gradient under
+// the train as it passes the signal.
 pub struct Way {
     pub distance: Metre,
     pub ahead: Gradient,
@@ -22,31 +24,46 @@ pub enum Found {
     Ready(Way),
 }
 
-// The least gradient from the head to the signal, both included.
-fn ahead(s: &[u8], head: Metre, place: Metre) -> Gradient
+// Where the tail is of a train with its head at a place: its length behind that, or at the line's beginning.
+fn tail(place: Metre, length: Metre) -> Metre
+    ensures { λ r. ⌜ r .0 ≡ tailOf (place .0) (length .0) ⌝ }
+{
+    let head = place.0;
+    let behind = length.0;
+    if head < behind {
+        return Metre(0);
+    }
+    Metre(head - behind)
+}
+
+// The least gradient from the tail to the signal, both included.
+fn ahead(s: &[u8], head: Metre, length: Metre, place: Metre) -> Gradient
     requires { ⌜ (accepted (now s) ≡ true) × (head .0 ≤ place .0) × (place .0 < lineOf (now s) .end) ⌝ }
-    ensures { λ r. ⌜ Slope (lineOf (now (s .entry))) (head .0) (place .0 + 1) r ⌝ }
+    ensures { λ r. ⌜ Slope (lineOf (now (s .entry))) (tailOf (head .0) (length .0)) (place .0 + 1) r ⌝ }
 {
     let end = place.0 + 1;
-    sheet_span::least(s, head, Metre(end))
+    let from = tail(head, length);
+    sheet_span::least(s, from, Metre(end))
 }
 
-// The least gradient from the signal up to but not including the overlap's end.
-fn past(s: &[u8], place: Metre, overlap: Metre) -> Gradient
+// The least gradient from the tail of a train with its head at the signal up to but not including the overlap's end.
+fn past(s: &[u8], place: Metre, length: Metre, overlap: Metre) -> Gradient
     requires { ⌜ (accepted (now s) ≡ true) × (place .0 + overlap .0 ≤ lineOf (now s) .end) ⌝ }
-    ensures { λ r. ⌜ Past (lineOf (now (s .entry))) (place .0) (overlap .0) r ⌝ }
+    ensures { λ r. ⌜ Past (lineOf (now (s .entry))) (place .0) (overlap .0) (length .0) r ⌝ }
 {
-    let from = place.0;
-    let length = overlap.0;
-    if length < 1 {
+    let signal = place.0;
+    let further = overlap.0;
+    if further < 1 {
         return Gradient { rise: 0, fall: 0 };
     }
-    sheet_span::least(s, place, Metre(from + length))
+    let end = signal + further;
+    let from = tail(place, length);
+    sheet_span::least(s, from, Metre(end))
 }
 
-// The way from the head to the signal of that number, from 0, and past it.
-pub fn find(s: &[u8], signal: u32, head: Metre) -> Found
-    ensures { λ r. ⌜ Finds (now (s .entry)) signal (head .0) r ⌝ }
+// The way of a train of a length from its head to the signal of that number, from 0, and past it.
+pub fn find(s: &[u8], signal: u32, head: Metre, length: Metre) -> Found
+    ensures { λ r. ⌜ Finds (now (s .entry)) signal (head .0) (length .0) r ⌝ }
 {
     let read = sheet_lookup::read_signal(s, signal);
     let bad = read.refusal;
@@ -61,9 +78,9 @@ pub fn find(s: &[u8], signal: u32, head: Metre) -> Found
     let distance = place.0 - head.0;
     let way = Way {
         distance: Metre(distance),
-        ahead: ahead(s, head, place),
+        ahead: ahead(s, head, length, place),
         overlap: overlap,
-        past: past(s, place, overlap),
+        past: past(s, place, length, overlap),
     };
     Found::Ready(way)
 }

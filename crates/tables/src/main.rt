@@ -5,6 +5,7 @@
 mod grid;
 mod models;
 mod sheets;
+mod tails;
 mod text;
 
 use libc::STDOUT_FILENO;
@@ -19,7 +20,8 @@ fn print_line(table: u32, k: usize) {
         4 => models::ramp_line(k),
         5 => models::climb_line(k),
         6 => sheets::sheet_line(k),
-        _ => sheets::query_line(k),
+        7 => sheets::query_line(k),
+        _ => tails::tail_line(k),
     }
 }
 
@@ -69,4 +71,9 @@ fn main() {
         b" = refusal release permitted mark W SBI EBI\n",
     );
     print_table(7, 8640);
+    io::write_all(
+        STDOUT_FILENO,
+        b"# tail L i overlap head = refusal release permitted mark W SBI EBI\n",
+    );
+    print_table(8, 560);
 }

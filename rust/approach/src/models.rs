@@ -43,7 +43,7 @@ pub struct Train {
     pub electropneumatic: bool,
     /// The braked weight percentage, 45 to 160 in steps of 5.
     pub braked_weight: u32,
-    /// At most 1,000 m.
+    /// At most 1,000 m. In a query gradients count from the tail, so much behind the head.
     pub length: Metre,
     /// The service regime's, 1 to 330 km/h.
     pub top_speed: Kmh,

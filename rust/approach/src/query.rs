@@ -54,7 +54,9 @@ pub struct Approach {
 }
 
 /// The approach of a train whose head stands at a place to the signal of a number, from 0. It brakes to the release speed on
-/// the least gradient from the head to the signal, and past the signal on the least along the overlap.
+/// the least gradient from its tail to the signal, and past the signal on the least from where its tail is with the head at
+/// the signal up to the overlap's end. The tail is the train's length behind the head, or at 0 where there is less of the line
+/// behind it.
 pub fn query(train: Train, times: Times, sheet: &[u8], signal: u32, head: Metre) -> Result<Approach, Refusal> {
     let answer = raw::query(train.into(), times.dead.0, times.rise.0, sheet, signal, head.0);
     let raw::Answer { refusal, release, permitted, mark, w, sbi, ebi } = answer;

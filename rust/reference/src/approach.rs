@@ -1,5 +1,5 @@
 //! The approach query: how fast a train may creep past a closed signal, and how fast it may come up to it (document 01,
-//! "Approach"), and the desk's third demand held against any answer.
+//! "Approach", with document 02's Card 2), and the desk's third demand held against any answer.
 
 use crate::ceilings::ceilings;
 use crate::fraction::Fraction;
@@ -63,10 +63,20 @@ struct Site {
     distance: u32,
     /// The gradient of the overlap; none where it has no length.
     past: Option<i32>,
+    /// The gradient ahead.
     ahead: i32,
 }
 
+/// Document 02, Card 2, after document 002, section 7.2: a gradient starts at the tail, for the wagons stand on slopes
+/// too. The line has no points before 0, and a train that would reach there is not refused.
+fn tail(train: Train, head: u32) -> u32 {
+    head.saturating_sub(train.length)
+}
+
 /// Refusals 1, 2, 3, 6, 7, 8 and 9, the lowest first.
+///
+/// The gradient ahead is over the points from the tail to the signal, both included. That of the overlap is over those
+/// from the tail of a train whose head is at the signal up to but not including the overlap's end.
 ///
 /// Document 01 takes the points of a span, fractions of a metre included, and `least` its whole metres. As stretches
 /// start at whole metres, a stretch that holds a point holds the whole metre at or before it, which is in the span too.
@@ -81,12 +91,13 @@ fn site(train: Train, tm: u32, tr: u32, bytes: &[u8], number: u32, head: u32) ->
     if head > place {
         return Err(9);
     }
-    let ahead = least(&sheet, head, place + 1).expect("a signal on the line");
+    let least_from_tail = |head, to| least(&sheet, tail(train, head), to).expect("a signal on the line").into();
     Ok(Site {
         overlap: MILLIMETRES * overlap,
         distance: MILLIMETRES * (place - head),
-        past: least(&sheet, place, place + overlap).map(i32::from),
-        ahead: ahead.into(),
+        // Without a length the overlap consults nothing, though there are points between tail and signal.
+        past: (overlap > 0).then(|| least_from_tail(place, place + overlap)),
+        ahead: least_from_tail(head, place + 1),
     })
 }
 
@@ -116,7 +127,7 @@ fn release_speed(train: Train, tm: u32, tr: u32, site: &Site) -> Result<u32, u32
     Ok(climb(creeps(train), fits)?.unwrap_or(0))
 }
 
-/// Document 01, "Approach": TM and TR in hundredths of a second, head in metres, or the refusal's number.
+/// Document 01, "Approach", with Card 2: TM and TR in hundredths of a second, head in metres, or the refusal's number.
 ///
 /// The P distances are the raised ones. They fit exactly where the exact ones do: the distance to the signal is a whole
 /// number of millimetres, and such a number is not below the raised one just when it is not below the exact one.

@@ -56,6 +56,18 @@ const QUERY_OVERLAPS: [u16; 3] = [0, 15, 300];
 const HEADS: [u32; 4] = [0, 250, 700, 2500];
 const TOP_SPEEDS: [u32; 2] = [60, 330];
 
+/// Card 2's own table: starts of a sheet of three stretches with one signal.
+const TAIL_STARTS: [u32; 3] = [0, 300, 1200];
+const TAIL_LENGTHS: [u32; 5] = [0, 1, 600, 1000, 1001];
+/// Of the second stretch; the others are level.
+const TAIL_GRADIENTS: [i16; 4] = [-35, -12, 1, 15];
+const TAIL_OVERLAPS: [u16; 2] = [0, 15];
+/// From head to signal.
+const TAIL_WAY: u32 = 250;
+const HEADS_FROM_0: [u32; 2] = [0, 250];
+/// On, 1 m before and 1 m behind a start is then the tail, or the tail of the train with its head at the signal.
+const HEADS_FROM_L: [u32; 12] = [49, 50, 51, 299, 300, 301, 949, 950, 951, 1199, 1200, 1201];
+
 /// The lines so far.
 struct Lines(String);
 
@@ -232,17 +244,20 @@ fn sheet_table(lines: &mut Lines) {
     }
 }
 
+/// Release, permitted, mark, and the W, SBI and EBI ceilings.
+fn queried(train: Train, (tm, tr): (u32, u32), sheet: &[u8], signal: u32, head: u32) -> Result<[i64; 6], u32> {
+    let Answer { release, permitted, mark, ceilings: [w, sbi, ebi] } = approach(train, tm, tr, sheet, signal, head)?;
+    Ok([release, permitted, mark as u32, w, sbi, ebi].map(i64::from))
+}
+
 /// Every signal of one sheet, and one past the last, from each head.
 fn query_lines(lines: &mut Lines, train: Train, (tm, tr): (u32, u32), overlap: u16, gradient: i16) {
     let sheet = written(300, gradient, 700, overlap, 6000).expect("a sheet that keeps its rules");
     for head in HEADS {
         for signal in 0..5 {
-            let answer = approach(train, tm, tr, &sheet, signal, head);
-            let fields = answer.map(|Answer { release, permitted, mark, ceilings: [w, sbi, ebi] }| {
-                [release, permitted, mark as u32, w, sbi, ebi].map(i64::from)
-            });
+            let answer = queried(train, (tm, tr), &sheet, signal, head);
             lines.word("query").train(train).fields([tm, tr]).fields([gradient]);
-            lines.fields([overlap.into(), signal, head]).word(" =").answer(fields).word("\n");
+            lines.fields([overlap.into(), signal, head]).word(" =").answer(answer).word("\n");
         }
     }
 }
@@ -260,6 +275,26 @@ fn query_table(lines: &mut Lines) {
     }
 }
 
+fn tail_line(lines: &mut Lines, length: u32, gradient: i16, overlap: u16, head: u32) {
+    let [train, ..] = trains(100, length, 330);
+    let sheet = write(&TAIL_STARTS, &[0, gradient, 0], &[head + TAIL_WAY], &[overlap], 6000, SHEET_BYTES);
+    let answer = queried(train, TIMES[0], &sheet.expect("a sheet that keeps its rules"), 0, head);
+    lines.word("tail").fields([length]).fields([gradient]).fields([overlap.into(), head]);
+    lines.word(" =").answer(answer).word("\n");
+}
+
+fn tail_table(lines: &mut Lines) {
+    lines.word("# tail L i overlap head = refusal release permitted mark W SBI EBI\n");
+    for length in TAIL_LENGTHS {
+        for gradient in TAIL_GRADIENTS {
+            for overlap in TAIL_OVERLAPS {
+                let heads = HEADS_FROM_0.into_iter().chain(HEADS_FROM_L.map(|place| length + place));
+                heads.for_each(|head| tail_line(lines, length, gradient, overlap, head));
+            }
+        }
+    }
+}
+
 /// All tables, in the program's order.
 pub fn printed() -> String {
     let mut lines = Lines(String::new());
@@ -270,5 +305,6 @@ pub fn printed() -> String {
     ramp_table(&mut lines);
     sheet_table(&mut lines);
     query_table(&mut lines);
+    tail_table(&mut lines);
     lines.0
 }

@@ -1,4 +1,5 @@
-//! Document 01's approach query: its printed lines, its refusals, the ends of its spans and the desk's third demand.
+//! Document 01's approach query: its printed lines, its refusals, the ends of its spans, which Card 2 of document 02 has
+//! start at the tail, and the desk's third demand.
 
 use numbers::Numbers;
 use reference::approach::{approach, keeps_demand, printed, Answer, Fault, Mark};
@@ -20,6 +21,9 @@ const EXAMPLE: &str = "01 00 02 00 14 00 00 00 1A 00 00 00 26 00 00 00 D0 07 00 
 /// The printing program's train.
 const EP: Train = Train { freight: false, electropneumatic: true, braked_weight: 100, length: 200, top_speed: 100 };
 const WEAK: Train = Train { braked_weight: 45, ..EP };
+
+/// Card 2: the shortest two, the card's own and the longest.
+const LENGTHS: [u32; 4] = [0, 1, 600, 1000];
 
 fn example() -> Vec<u8> {
     EXAMPLE.split_whitespace().map(|byte| u8::from_str_radix(byte, 16).expect("a byte")).collect()
@@ -126,8 +130,9 @@ impl Numbers {
         }
     }
 
-    /// A query that differs in its sheet alone, and there in all that document 01 lets two agreeing sheets differ in.
-    fn agreeing(&mut self, query: &Query) -> Query {
+    /// A query that differs in its sheet alone, and there in all that document 01 lets two agreeing sheets differ in,
+    /// with the gradients agreeing from this point on.
+    fn agreeing(&mut self, query: &Query, from: u32) -> Query {
         let old = sheet::read(&query.sheet).expect("an accepted sheet");
         let mut signals = old.signals[..=query.signal as usize].to_vec();
         let Signal { place, overlap } = signals.pop().expect("the chosen signal");
@@ -135,11 +140,11 @@ impl Numbers {
         signals.push(Signal { place, overlap });
         let past = place + u32::from(overlap).max(1);
         let end = past + self.below(300);
-        let starts = [0, query.head, past].into_iter().chain(old.stretches.iter().map(|stretch| stretch.start));
+        let starts = [0, from, past].into_iter().chain(old.stretches.iter().map(|stretch| stretch.start));
         let starts: Vec<u32> = starts.chain([self.below(end), self.below(end)]).filter(|&start| start < end).collect();
         let mut stretches = BTreeMap::new();
         for start in starts {
-            let held = (query.head..past).contains(&start);
+            let held = (from..past).contains(&start);
             let gradient = if held { least(&old, start, start + 1).expect("on the line") } else { self.gradient() };
             stretches.insert(start, gradient);
         }
@@ -181,6 +186,17 @@ fn prints_of_other_sheets() {
     let lines: Vec<&str> = lines.split_inclusive('\n').collect();
     assert_eq!(lines[..2], ["0 37 37 release 4920 5040 5340\n", "1 refused 10\n"]);
     assert!(lines.len() == 3 && lines[2].starts_with("2 0 ") && lines[2].contains(" curve "), "{lines:?}");
+}
+
+/// Document 02, Card 2: the program's train has 200 m, so at 999 m its tail is still on the fall, at 1,000 m no more.
+///
+/// On -20 the ramp takes 116.770 m from 30 km/h and 122.974 m from 31, on the level 37 is document 01's. The way ahead
+/// falls for both signals: P to 30 km/h is 997.863 m from 69 and 1,025.138 m from 70, to 37 km/h 983.200 m from 71 and
+/// 1,011.260 m from 72.
+#[test]
+fn prints_of_a_tail_on_the_fall() {
+    let line = sheet(&[(0, -20), (800, 0)], &[(999, 120), (1000, 120)], 2000);
+    assert_eq!(printed(&line), "0 30 69 curve 8760 8880 9180\n1 37 71 curve 9000 9120 9420\n");
 }
 
 #[test]
@@ -287,8 +303,9 @@ fn head_at_the_signal() {
 
 /// BW 45 has 0.362 m/s² in the ramp: too little on -35.
 ///
-/// In an overlap of 1 m the ramp is never the only weak model: its one stretch holds the signal's own point and so is
-/// in the way ahead, where the step model has 0.57 for the ramp's 0.9. Hence a stretch that starts 1 m past the signal.
+/// In an overlap of 1 m the ramp is never the only weak model: its stretches, by Card 2 those from the tail of a train
+/// at the signal to the signal's own point, are all in the way ahead, where the step model has 0.57 for the ramp's 0.9.
+/// Hence a stretch that starts 1 m past the signal.
 #[test]
 fn ramp_too_weak_alone() {
     let query = |overlap| Query { train: WEAK, ..Query::line(&[(0, 0), (1001, -35)], overlap) };
@@ -308,8 +325,9 @@ fn step_too_weak_alone() {
         assert!(greatest_place(45, -19, 1, 200, 400).is_ok());
         assert_eq!(query(-19).run(), Err(10), "overlap {overlap}");
         assert_eq!(query(-19).verdict(query(0).answer()), Err(Fault::Refused(10)), "overlap {overlap}");
-        // What lies behind the head is not consulted.
-        assert!(Query { head: 500, ..query(-19) }.run().is_ok(), "overlap {overlap}");
+        // What lies behind the tail is not consulted, what lies under it is (Card 2).
+        assert!(Query { head: 700, ..query(-19) }.run().is_ok(), "overlap {overlap}");
+        assert_eq!(Query { head: 699, ..query(-19) }.run(), Err(10), "overlap {overlap}");
         // What lies past the signal only the ramp is, and for it -19 is not too much.
         let past = Query { train: WEAK, ..Query::line(&[(0, 0), (1001, -19)], overlap) };
         assert_eq!(past.verdict(past.answer()), Ok(()), "overlap {overlap}");
@@ -339,23 +357,121 @@ fn points_of_the_way_ahead() {
     assert_eq!(Query::line(&[(0, 0), (1001, -10)], 0).answer(), level, "past the signal");
     assert_eq!(Query::line(&[(0, 0), (1, -10), (2, 0)], 0).answer(), falling, "within");
     assert_eq!(Query::line(&[(0, 0), (400, -10), (600, 5)], 0).answer(), falling, "the least, not the last");
-    let from_100 = |stretches| Query { head: 100, ..Query::line(stretches, 0) }.answer();
-    assert_ne!(from_100(&[(0, 0)]), from_100(&[(0, -10)]));
-    assert_eq!(from_100(&[(0, -10), (101, 0)]), from_100(&[(0, -10)]), "the head's own point");
-    assert_eq!(from_100(&[(0, -10), (100, 0)]), from_100(&[(0, 0)]), "behind the head");
+    // Card 2: 200 m behind the head is the tail.
+    let from_300 = |stretches| Query { head: 300, ..Query::line(stretches, 0) }.answer();
+    assert_ne!(from_300(&[(0, 0)]), from_300(&[(0, -10)]));
+    assert_eq!(from_300(&[(0, -10), (300, 0)]), from_300(&[(0, -10)]), "behind the head");
+    assert_eq!(from_300(&[(0, 0), (200, -10), (201, 0)]), from_300(&[(0, -10)]), "between tail and head");
+    assert_eq!(from_300(&[(0, -10), (101, 0)]), from_300(&[(0, -10)]), "the tail's own point");
+    assert_eq!(from_300(&[(0, -10), (100, 0)]), from_300(&[(0, 0)]), "behind the tail");
 }
 
-/// The release speed tells the gradient of the overlap alone.
+/// The release speed tells the gradient of the overlap alone. By Card 2 that starts 200 m before the signal.
 #[test]
 fn points_of_the_overlap() {
     let release = |stretches| Query::line(stretches, 120).answer().release;
     let (level, falling) = (release(&[(0, 0)]), release(&[(0, -20)]));
     assert!(level == 37 && falling < 37, "{falling}");
-    assert_eq!(release(&[(0, -20), (1000, 0)]), level, "before the signal");
-    assert_eq!(release(&[(0, -20), (1001, 0)]), falling, "the signal's own point");
+    assert_eq!(release(&[(0, -20), (800, 0)]), level, "behind the tail");
+    assert_eq!(release(&[(0, -20), (801, 0)]), falling, "the tail's own point");
+    assert_eq!(release(&[(0, 0), (900, -20), (901, 0)]), falling, "between tail and signal");
+    assert_eq!(release(&[(0, 0), (1000, -20), (1001, 0)]), falling, "the signal's own point");
     assert_eq!(release(&[(0, 0), (1119, -20)]), falling, "the last metre");
     assert_eq!(release(&[(0, 0), (1120, -20)]), level, "the overlap's end");
     assert_eq!(release(&[(0, 0), (1050, -20), (1051, 7)]), falling, "the least, not the last");
+}
+
+/// The permitted speed of the program's train, but for its length, with 1,057 m to the signal and no overlap.
+///
+/// It is 90 on the level, document 01's figure, and 79 on -10, where P is 1,046.462 m from 79 and 1,068.548 m from 80.
+/// The electropneumatic brake keeps the length out of P.
+fn permitted_from(length: u32, stretches: &[(u32, i16)], head: u32) -> u32 {
+    let line = sheet(stretches, &[(head + 1057, 0)], 4000);
+    Query { train: Train { length, ..EP }, head, ..Query::new(line) }.answer().permitted
+}
+
+/// The release speed of that train in an overlap of 120 m past a signal at this place.
+///
+/// It is 37 on the level, document 01's figure, and 30 on -20, where the ramp takes 116.770 m from 30 and 122.974 m
+/// from 31. Where the head is does not change it.
+fn release_at(length: u32, stretches: &[(u32, i16)], place: u32) -> u32 {
+    let query = Query { train: Train { length, ..EP }, ..Query::new(sheet(stretches, &[(place, 120)], 4000)) };
+    let release = query.answer().release;
+    assert_eq!(Query { head: place, ..query }.answer().release, release, "L {length}, {stretches:?}, signal {place}");
+    release
+}
+
+/// Document 02, Card 2: the tail one metre before a stretch's start, on it, and one metre behind it.
+#[test]
+fn the_tail_at_a_start() {
+    for length in LENGTHS {
+        // The fall ends at 300 m.
+        for (tail, way, overlap) in [(299, 79, 30), (300, 90, 37), (301, 90, 37)] {
+            let head = tail + length;
+            assert_eq!(permitted_from(length, &[(0, -10), (300, 0)], head), way, "L {length}, tail {tail}");
+            assert_eq!(release_at(length, &[(0, -20), (300, 0)], head), overlap, "L {length}, tail {tail}");
+        }
+        // The fall is the metre from 300 m on.
+        for (tail, way, overlap) in [(299, 79, 30), (300, 79, 30), (301, 90, 37)] {
+            let head = tail + length;
+            assert_eq!(permitted_from(length, &[(0, 0), (300, -10), (301, 0)], head), way, "L {length}, tail {tail}");
+            assert_eq!(release_at(length, &[(0, 0), (300, -20), (301, 0)], head), overlap, "L {length}, tail {tail}");
+        }
+    }
+}
+
+/// Document 02, Card 2: where head or signal less L is below 0, the gradient starts at 0, and nothing is refused.
+#[test]
+fn the_tail_at_the_lines_beginning() {
+    for length in LENGTHS {
+        for head in [0, length / 2, length.saturating_sub(1), length] {
+            assert_eq!(permitted_from(length, &[(0, -10), (1, 0)], head), 79, "L {length}, head {head}");
+            assert_eq!(release_at(length, &[(0, -20), (1, 0)], head), 30, "L {length}, signal {head}");
+        }
+        assert_eq!(permitted_from(length, &[(0, -10), (1, 0)], length + 1), 90, "L {length}");
+        assert_eq!(release_at(length, &[(0, -20), (1, 0)], length + 1), 37, "L {length}");
+    }
+}
+
+/// Document 02, Card 2's own train: 600 m of freight, its head on the level and most of its wagons on a falling grade.
+///
+/// In 50 m the ramp stops 19 km/h on -12 (49.910 m, from 20 53.824) and 21 on the level (47.134 m, from 22 50.611). In
+/// 490 m P brings 24 km/h to 19 on -12 (478.626 m, from 25 498.872), and 34 to 21 on the level (478.186 m, from 35
+/// 496.487). With the head at the signal the tail, at 990 m, is still on the fall.
+#[test]
+fn the_tail_on_the_hill() {
+    let train = Train { freight: true, electropneumatic: false, length: 600, ..EP };
+    let on =
+        |stretches, signal| Query { train, head: signal - 490, ..Query::new(sheet(stretches, &[(signal, 50)], 4000)) };
+    let (hill, falling, level) = ([(0, -12), (1000, 0)], [(0, -12)], [(0, 0)]);
+    assert_eq!(on(&hill, 1590).run(), Ok(answer(19, 24, Mark::Curve)));
+    assert_eq!(on(&falling, 1590).run(), Ok(answer(19, 24, Mark::Curve)));
+    assert_eq!(on(&level, 1590).run(), Ok(answer(21, 34, Mark::Curve)));
+    // The level line's answer would be too fast for it.
+    assert_eq!(on(&hill, 1590).verdict(answer(21, 34, Mark::Curve)), Err(Fault::Beyond(20)));
+    // When the last wagon is off the fall, with the head at 1,600 m, the hill counts no more.
+    assert_eq!(on(&hill, 2090).run(), Ok(answer(21, 34, Mark::Curve)));
+    assert_ne!(on(&hill, 2089).run(), on(&hill, 2090).run());
+}
+
+/// Document 02, Card 2, leaves it so: the points between tail and signal are no overlap.
+///
+/// BW 45 is too weak on -18 for any V0 above 0. On the level its 0.362 m/s² stop 3 km/h in 0.964 m, and 4 in 1.711.
+/// A ramp consulted all the same would not show: it fits no speed into 0 m, and is weaker than the step model nowhere.
+#[test]
+fn an_overlap_of_0_consults_nothing() {
+    for length in LENGTHS {
+        let line = |overlap| sheet(&[(0, -18), (1500, 0)], &[(1500, overlap)], 2000);
+        let train = Train { length, ..WEAK };
+        let query = |overlap| Query { train, tm: 0, tr: 1, head: 1500, ..Query::new(line(overlap)) };
+        let (without, with) = match length {
+            0 => (Ok(answer(0, 0, Mark::Curve)), Ok(answer(3, 3, Mark::Release))),
+            _ => (Ok(answer(0, 0, Mark::Release)), Err(10)),
+        };
+        assert_eq!(query(0).run(), without, "L {length}");
+        assert_eq!(query(1).run(), with, "L {length}");
+        assert_eq!(query(0).verdict(answer(1, 1, Mark::Release)), Err(Fault::Beyond(1)), "L {length}");
+    }
 }
 
 #[test]
@@ -393,12 +509,13 @@ fn an_overlap_that_just_fits() {
 
 /// A long freight train on -34: P to V0 = 1 is 1,290.492 m from 1 km/h, 1,208.603 from 2, 1,224.596 from 3, 1,260.176
 /// from 4 and 1,303.510 from 5: K0 grows with V, and the little that dp leaves over the fall grows faster still.
+/// Its wagons are on the fall past the signal too (Card 2): there the ramp takes 8.137 m from 1 km/h, 10.814 from 2.
 #[test]
 fn the_first_misfit_ends_the_climb() {
     let freight = Train { freight: true, electropneumatic: false, length: 1000, ..EP };
     let ways = [1, 2, 3, 4, 5].map(|v| step(freight, v, 1, -34).expect("strong enough")[3]);
     assert_eq!(ways, [1_290_492, 1_208_603, 1_224_596, 1_260_176, 1_303_510]);
-    let line = sheet(&[(0, -34), (2000, 0)], &[(2000, 1)], 2001);
+    let line = sheet(&[(0, -34), (2000, 0)], &[(2000, 10)], 2010);
     let query = |distance: u32| Query { train: freight, head: 2000 - distance, ..Query::new(line.clone()) };
     // 2 and 3 would fit into 1,250 m, but 1 does not.
     for (distance, wanted) in [(1250, answer(1, 1, Mark::Release)), (1290, answer(1, 1, Mark::Release))] {
@@ -581,23 +698,50 @@ fn wrong_answers_at_random() {
 
 #[test]
 fn a_split_stretch_and_what_lies_outside() {
+    // The tail is at 100 m.
     let query = Query { head: 300, ..Query::line(&[(0, -5), (900, 3)], 120) };
     let with = |stretches| Query { sheet: Query::line(stretches, 120).sheet, ..query.clone() }.answer();
     assert_eq!(with(&[(0, -5), (700, -5), (900, 3), (1000, 3), (1050, 3)]), query.answer());
-    assert_eq!(with(&[(0, 35), (300, -5), (900, 3), (1120, -35)]), query.answer());
-    assert_ne!(with(&[(0, 35), (300, -6), (900, 3)]), query.answer());
+    assert_eq!(with(&[(0, -20), (100, -5), (900, 3), (1120, -20)]), query.answer());
+    assert_ne!(with(&[(0, -20), (101, -5), (900, 3)]), query.answer());
+    assert_ne!(with(&[(0, -5), (900, 3), (1119, -20)]), query.answer());
 }
 
+/// Document 02, Card 2: sheets that agree from the tail on get the same answer, at random whatever the rest.
 #[test]
 fn agreeing_sheets_at_random() {
     let mut numbers = Numbers(0xD1B5_4A32_D192_ED03);
-    let (mut accepted, mut differing) = (0, 0);
+    let (mut accepted, mut differing, mut clear) = (0, 0, 0);
     for _ in 0..400 {
         let query = numbers.query();
-        let agreeing = numbers.agreeing(&query);
+        let tail = query.head.saturating_sub(query.train.length);
+        let agreeing = numbers.agreeing(&query, tail);
         assert_eq!(query.run(), agreeing.run(), "{query:?} {agreeing:?}");
         accepted += u32::from(query.run().is_ok());
         differing += u32::from(query.sheet != agreeing.sheet);
+        clear += u32::from(tail > 0);
     }
     assert!(accepted > 200 && differing > 350, "{accepted} accepted, {differing} sheets that differ");
+    assert!(clear > 50, "{clear} with points behind the tail");
+}
+
+/// Document 02, Card 2: sheets that agree from the head on, but not from the tail on, need not get the same answer.
+#[test]
+fn sheets_that_agree_from_the_head_on() {
+    // 600 m of train with the tail at 743 m, or one metre farther back.
+    let (one, other) = ([(0, -10), (743, 0)], [(0, 0)]);
+    assert_eq!([permitted_from(600, &one, 1343), permitted_from(600, &other, 1343)], [90, 90]);
+    assert_eq!([permitted_from(600, &one, 1342), permitted_from(600, &other, 1342)], [79, 90]);
+    // The same of the overlap, with the head at the signal.
+    let (one, other) = ([(0, -20), (743, 0)], [(0, 0)]);
+    assert_eq!([release_at(600, &one, 1343), release_at(600, &other, 1343)], [37, 37]);
+    assert_eq!([release_at(600, &one, 1342), release_at(600, &other, 1342)], [30, 37]);
+    let mut numbers = Numbers(0xE703_7ED1_A0B4_28DB);
+    let mut differing = 0;
+    for _ in 0..200 {
+        let query = numbers.query();
+        let agreeing = numbers.agreeing(&query, query.head);
+        differing += u32::from(query.run() != agreeing.run());
+    }
+    assert!(differing > 40, "{differing} answers that differ");
 }

@@ -24,6 +24,7 @@ fn refusals_in_the_tables() {
         ("ramp", "0 3 6 10"),
         ("sheet", "0 7"),
         ("query", "0 8 9 10"),
+        ("tail", "0 2 10"),
     ];
     for (table, refusals) in wanted {
         let lines = STORED.lines().filter(|line| line.split(' ').next() == Some(table));

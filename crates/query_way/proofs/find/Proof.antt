@@ -67,8 +67,8 @@ returns-3 c =
       spans = told (way-judges (now (a .s)) (a .signal) (a .head .0)) (sym g) .1;
       says =
           record {
-            way = way-of l (a .signal) (a .head .0) _ _ _ _ (i .place) (i .overlap) (c .before .ahead .ensures .least .value) (c .past .ensures .value);
-            leads = leads-of l (a .signal) (a .head .0) _ _ _ _ (i .place) (i .overlap) h (c .before .ahead .ensures) (c .past .ensures);
+            way = way-of l (a .signal) (a .head .0) (a .length .0) _ _ _ _ (i .place) (i .overlap) (c .before .ahead .ensures .least .value) (c .past .ensures .value);
+            leads = leads-of l (a .signal) (a .head .0) (a .length .0) _ _ _ _ (i .place) (i .overlap) h (c .before .ahead .ensures) (c .past .ensures);
             ahead = c .before .ahead .ensures .moderate;
             past = c .past .ensures .moderate;
           };

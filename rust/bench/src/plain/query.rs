@@ -52,15 +52,16 @@ fn answered<P: Plan>(train: Train, tm: u32, tr: u32, sheet: &[u8], signal: u32, 
     let (stretches, signals) = sheet::checked(sheet).ok_or(7u32)?;
     let (place, overlap) = sheet::numbered(signals, signal).ok_or(8u32)?;
     let metres = place.checked_sub(head).ok_or(9u32)?;
+    let tail = |head: u32| head.saturating_sub(train.length);
     let mut release = 0;
     if overlap > 0 {
-        let past = P::least(stretches, place, place + overlap);
+        let past = P::least(stretches, tail(place), place + overlap);
         if !ramp::strong(train.braked_weight, past) {
             return Err(10);
         }
         release = P::release(train, tm, tr, past, 1000 * overlap);
     }
-    let course = step::course(train, P::least(stretches, head, place + 1));
+    let course = step::course(train, P::least(stretches, tail(head), place + 1));
     if !step::strong(course, release) {
         return Err(10);
     }

@@ -1,66 +1,17 @@
 //! The library's approach answers against the reference, on accepted and refused queries, and the desk's third demand of the
 //! accepted ones.
-use approach::{raw, Approach, Brake, Ceilings, Kmh, Mark, Metre, Refusal, Train};
-use inputs::{on_paper, Line, Query, Random, EXAMPLE, EXAMPLE_TRAIN};
-use reference::approach::{approach, keeps_demand, printed};
-use std::collections::BTreeMap;
-use std::hint::black_box;
+use approach::{Approach, Brake, Ceilings, Kmh, Mark, Metre, Train};
+use asked::{accepted, check, one_signal, refusal, sheet};
+use inputs::{Line, Query, Random, EXAMPLE, EXAMPLE_TRAIN};
+use reference::approach::printed;
 
-/// What stands in as many bytes on either side of a lent sheet.
-const UNTOUCHED: u8 = 0xa5;
-const GUARD: usize = 7;
+mod agreement;
+mod asked;
+mod tail;
 
 const WEAK: Train = Train { braked_weight: 45, ..EXAMPLE_TRAIN };
 const LONG_FREIGHT: Train =
     Train { brake: Brake::Freight, electropneumatic: false, length: Metre(1000), ..EXAMPLE_TRAIN };
-
-/// The answer as the reference has it.
-fn on_reference(answer: Approach) -> reference::approach::Answer {
-    let Approach { release: Kmh(release), permitted: Kmh(permitted), mark, ceilings: Ceilings { w, sbi, ebi } } =
-        answer;
-    let mark = match mark {
-        Mark::Curve => reference::approach::Mark::Curve,
-        Mark::Release => reference::approach::Mark::Release,
-    };
-    reference::approach::Answer { release, permitted, mark, ceilings: [w.0, sbi.0, ebi.0] }
-}
-
-/// The library's answer from a sheet that lies between other bytes, all of which it leaves as they are.
-fn answer(q: &Query) -> Result<Approach, u32> {
-    let guard = [UNTOUCHED; GUARD];
-    let memory = [&guard, &q.sheet[..], &guard].concat();
-    let answer = q.on(&memory[GUARD..GUARD + q.sheet.len()]);
-    assert_eq!(black_box(memory), [&guard, &q.sheet[..], &guard].concat(), "the query has changed bytes: {q:?}");
-    answer.map_err(Refusal::number)
-}
-
-/// Beside a refusal stand zeros.
-fn check(q: &Query) -> Result<Approach, u32> {
-    let Query { train, tm, tr, sheet, signal, head } = q;
-    let answer = answer(q);
-    let expected = approach(on_paper(*train), *tm, *tr, sheet, *signal, *head);
-    assert_eq!(answer.map(on_reference), expected, "{q:?}");
-    match answer {
-        Ok(answer) => {
-            let kept = keeps_demand(on_paper(*train), *tm, *tr, sheet, *signal, *head, on_reference(answer));
-            assert_eq!(kept, Ok(()), "the demand: {answer:?} to {q:?}");
-        }
-        Err(refusal) => {
-            let zeros = raw::Answer { refusal, release: 0, permitted: 0, mark: 0, w: 0, sbi: 0, ebi: 0 };
-            assert_eq!(raw::query((*train).into(), *tm, *tr, sheet, *signal, *head), zeros, "{q:?}");
-        }
-    }
-    answer
-}
-
-fn accepted(q: &Query) -> Approach {
-    check(q).expect("an accepted query")
-}
-
-/// 0 of an accepted one.
-fn refusal(q: &Query) -> u32 {
-    check(q).err().unwrap_or(0)
-}
 
 /// Mostly a line where speeds differ, now and then any line.
 fn line(random: &mut Random) -> Line {
@@ -154,17 +105,6 @@ fn answers_at_random() {
     assert!(looks.iter().all(|&count| count > 100), "{looks:?}");
 }
 
-fn sheet(stretches: &[(u32, i16)], signals: &[(u32, u16)], end: u32) -> Vec<u8> {
-    let (starts, gradients) = stretches.iter().copied().unzip();
-    let (places, overlaps) = signals.iter().copied().unzip();
-    Line { starts, gradients, places, overlaps, end }.written()
-}
-
-/// The printing program's query, one signal 1,000 m on.
-fn one_signal(stretches: &[(u32, i16)], overlap: u16) -> Query {
-    Query::printed(sheet(stretches, &[(1000, overlap)], 40_000))
-}
-
 #[test]
 fn the_printed_example() {
     let lines: String =
@@ -201,13 +141,14 @@ fn signal_numbers_and_heads() {
     assert_eq!(refusal(&Query::printed(bare)), 8);
 }
 
-/// A fall from a point on, up to it, and of one metre, about each end of the two spans.
+/// A fall from a point on, up to it, and of one metre, about the head and each end of the two spans, which begin 200 m behind
+/// the head and behind the signal.
 #[test]
 fn stretches_about_the_spans() {
     let mut answers = Vec::new();
     for overlap in [0, 1, 2, 120] {
         let end = 1000 + overlap as u32;
-        for point in [399, 400, 401, 999, 1000, 1001, end - 1, end, end + 1] {
+        for point in [199, 200, 201, 400, 799, 800, 801, 999, 1000, 1001, end - 1, end, end + 1] {
             for stretches in [[(0, 0), (point, -9), (30_000, -9)], [(0, -9), (point, 0), (30_000, 4)]] {
                 answers.push(accepted(&Query { head: 400, ..one_signal(&stretches, overlap) }));
             }
@@ -229,13 +170,13 @@ fn which_stretches_count() {
     assert_eq!(ahead(&[(0, 0), (999, -10)]), falling, "before the signal");
     assert_eq!(ahead(&[(0, 0), (1000, -10)]), falling, "at the signal");
     assert_eq!(ahead(&[(0, 0), (1001, -10)]), level, "past the signal");
-    assert_eq!(ahead(&[(0, -10), (401, 0)]), falling, "at the head");
-    assert_eq!(ahead(&[(0, -10), (400, 0)]), level, "behind the head");
+    assert_eq!(ahead(&[(0, -10), (201, 0)]), falling, "at the tail");
+    assert_eq!(ahead(&[(0, -10), (200, 0)]), level, "behind the tail");
     let release = |stretches: &[_]| accepted(&one_signal(stretches, 120)).release;
     let (level, falling) = (release(&[(0, 0)]), release(&[(0, -20)]));
     assert!(falling < level);
-    assert_eq!(release(&[(0, -20), (1000, 0)]), level, "before the signal");
-    assert_eq!(release(&[(0, -20), (1001, 0)]), falling, "at the signal");
+    assert_eq!(release(&[(0, -20), (800, 0)]), level, "behind the tail, the head at the signal");
+    assert_eq!(release(&[(0, -20), (801, 0)]), falling, "at the tail, the head at the signal");
     assert_eq!(release(&[(0, 0), (1119, -20)]), falling, "the overlap's last metre");
     assert_eq!(release(&[(0, 0), (1120, -20)]), level, "the overlap's end");
     let to_the_end = Query::printed(sheet(&[(0, 0), (1119, -20)], &[(1000, 120)], 1120));
@@ -287,10 +228,11 @@ fn what_just_fits() {
     }
 }
 
-/// Down -34 a long freight train needs less way from 2 km/h to 1 than from 1 to 1: the first misfit ends the climb.
+/// Down -34 a long freight train needs less way from 2 km/h to 1 than from 1 to 1: the first misfit ends the climb. Its wagons
+/// are on the fall past the signal too, where 10 m are enough for 1 km/h and not for 2.
 #[test]
 fn the_first_misfit() {
-    let line = sheet(&[(0, -34), (2000, 0)], &[(2000, 1)], 2001);
+    let line = sheet(&[(0, -34), (2000, 0)], &[(2000, 10)], 2010);
     for distance in (1200..1310).step_by(5).chain([1290, 1291, 1303, 1304]) {
         let answer = accepted(&Query { train: LONG_FREIGHT, head: 2000 - distance, ..Query::printed(line.clone()) });
         let wanted = match distance {
@@ -357,53 +299,4 @@ fn the_lowest_refusal_first() {
             assert_eq!(refusal(&q), low.min(high), "{q:?}");
         }
     }
-}
-
-fn gradient_at(line: &Line, point: u32) -> i16 {
-    line.gradients[line.starts.partition_point(|&start| start <= point) - 1]
-}
-
-/// A line that agrees on the signal and on each point from the head up to the overlap's end, and on little else; and the
-/// signal's number there.
-fn agreeing(random: &mut Random, line: &Line, signal: u32, head: u32) -> (Line, u32) {
-    let (place, overlap) = (line.places[signal as usize], line.overlaps[signal as usize]);
-    let past = place + (overlap as u32).max(1);
-    let end = (past + random.below(3000) as u32).min(500_000);
-    let mut starts = [line.starts.clone(), vec![0, head, past]].concat();
-    starts.extend((0..random.below(8)).map(|_| random.below(end as u64) as u32));
-    starts.retain(|&start| start < end);
-    starts.sort();
-    starts.dedup();
-    let mut gradient = |start| match (head..past).contains(&start) {
-        true => gradient_at(line, start),
-        false => random.below(71) as i16 - 35,
-    };
-    let gradients = starts.iter().map(|&start| gradient(start)).collect();
-    let mut signals = BTreeMap::new();
-    for _ in 0..random.below(6) {
-        let other = random.below(end as u64) as u32;
-        signals.insert(other, random.below_any(&[1, 200]).min(end - other) as u16);
-    }
-    signals.insert(place, overlap);
-    let number = signals.range(..place).count() as u32;
-    let (places, overlaps) = signals.into_iter().unzip();
-    (Line { starts, gradients, places, overlaps, end }, number)
-}
-
-#[test]
-fn agreeing_sheets() {
-    let mut random = Random(62);
-    let (mut accepted, mut renumbered) = (0, 0);
-    for _ in 0..2_000 {
-        let line = line(&mut random);
-        let (signal, head) = signal_and_head(&mut random, &line);
-        let (other, number) = agreeing(&mut random, &line, signal, head);
-        let (train, (tm, tr)) = (random.train(), times(&mut random));
-        let q = Query { train, tm, tr, sheet: line.written(), signal, head };
-        let agreeing = Query { sheet: other.written(), signal: number, ..q.clone() };
-        assert_eq!(answer(&q), answer(&agreeing), "{q:?} {agreeing:?}");
-        accepted += answer(&q).is_ok() as u32;
-        renumbered += (signal != number) as u32;
-    }
-    assert!(accepted > 1_000 && renumbered > 500, "{accepted} accepted, {renumbered} with another number");
 }
