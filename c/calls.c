@@ -177,6 +177,25 @@ static void query(void) {
     expect_answer("query, held by the top speed", 60, 1, top);
 }
 
+/* A fall of 20 per mille up to 800 m, level from there on; with its head at a signal at 1,000 m that has 120 m of overlap, a train of
+ * 200 m has left the fall and one of 201 m has not (document 02, Card 2). On -20 the ramp takes 116.770 m from 30 km/h and 122.974 m
+ * from 31; on the level 37 is document 01's. */
+static void tail(void) {
+    const uint32_t starts[] = {0, 800}, places[] = {1000};
+    const int16_t gradients[] = {-20, 0};
+    const uint16_t overlaps[] = {120};
+    const struct approach_answer off = {APPROACH_ACCEPTED, 37, 37, APPROACH_MARK_RELEASE, 4920, 5040, 5340};
+    const struct approach_answer on = {APPROACH_ACCEPTED, 30, 30, APPROACH_MARK_RELEASE, 30 * 120 + 480, 30 * 120 + 600, 30 * 120 + 900};
+    uint8_t sheet[APPROACH_SHEET_LENGTH(2, 1)];
+    approach_sheet_write(starts, 2, gradients, 2, places, 1, overlaps, 1, 2000, sheet, sizeof sheet);
+    struct approach_train t = train;
+    struct approach_answer of_200 = approach_query(t, 200, 400, sheet, sizeof sheet, 0, 1000);
+    t.length = 201;
+    struct approach_answer of_201 = approach_query(t, 200, 400, sheet, sizeof sheet, 0, 1000);
+    expect("query, the tail off the fall", memcmp(&of_200, &off, sizeof off) == 0);
+    expect("query, the tail on the fall", memcmp(&of_201, &on, sizeof on) == 0);
+}
+
 /* The header's constant and the call's answer are document 01's number. */
 static void expect_refusal(uint32_t number, uint32_t constant, uint32_t refusal) {
     char name[16];
@@ -215,6 +234,7 @@ int main(void) {
     sheets();
     sheet_lengths();
     query();
+    tail();
     refusals();
     printf("%d passed, %d failed\n", passed, failed);
     return failed > 0;

@@ -46,7 +46,7 @@ module _ (s : List ℕ) (k head : ℕ) where
     pub on-line : (lineOf s .place k < lineOf s .end) × (lineOf s .place k + lineOf s .overlap k ≤ lineOf s .end)
     on-line = headed-of s e .1 .signals .each k h
 
--- the tail is where it is, in words of their own
+-- the definition's tail is where the words beside it say
 tail-behind : (place length : ℕ) → Behind place length (tailOf place length)
 tail-behind place length = ⊎-elim (λ h. inr (h, omega arith)) (λ h. inl (omega arith)) (below place length)
 

@@ -24,8 +24,8 @@ wayRefusals s k head = let l = lineOf s in not (accepted s) gives 7 ∷ leb (l .
 abbrev pub wayRules : List ℕ → ℕ → ℕ → List Rule
 wayRules s k head = let l = lineOf s in sheetRule s ∷ 8 keeps (k < l .signals) ∷ 9 keeps (head ≤ l .place k) ∷ []
 
--- Card 2: where the tail of a train is whose head is at a place: at that place less the train's length, L, or at 0 if that is lower.
--- A difference of natural numbers is 0 where it would be lower.
+-- Card 2: where the tail is of a train with its head at a place: at that place less the train's length, L, or at 0 if that is lower.
+-- (A difference of natural numbers is 0 where it would be lower.)
 abbrev pub tailOf : ℕ → ℕ → ℕ
 tailOf place length = place - length
 
@@ -44,8 +44,8 @@ wayOf l k head length =
       past = pastOf l (l .place k) (l .overlap k) length;
     }
 
--- In words of its own, where the tail is: the train reaches from it to the place of its head, or is longer than the line is there and
--- begins at 0.
+-- In words of its own, where the tail is: the train reaches from there to the place of its head, or from 0 where it is longer than the
+-- line is up to that place.
 abbrev pub Behind : ℕ → ℕ → ℕ → Type 0
 Behind place length tail = (tail + length ≡ place) ⊎ ((place < length) × (tail ≡ 0))
 
@@ -58,8 +58,8 @@ pub record Leads (l : Line) (k head length : ℕ) (w : Way) : Type 0 where
   pub ahead : (tail : ℕ) × (Behind head length tail × LeastOver l tail (l .place k + 1) (w .ahead))
   pub past : 0 < w .overlap .0 → (tail : ℕ) × (Behind (l .place k) length tail × LeastOver l tail (l .place k + l .overlap k) (w .past))
 
--- Card 2: two lines agree on a signal each, and on the gradient at each point from the start of the gradient ahead, so at each p to which
--- the train reaches back, up to but not including the overlap's end, the signal's own point always included
+-- Card 2: two lines agree on a signal each, and on the gradient at each point from the start of the gradient ahead, so from the p on that
+-- are at most L behind the head, up to but not including the overlap's end, the signal's own point always included
 pub record Agree (l m : Line) (i j head length : ℕ) : Type 0 where
   pub place : l .place i ≡ m .place j
   pub overlap : l .overlap i ≡ m .overlap j

@@ -67,7 +67,7 @@ fn the_largest_sheet() {
     assert_eq!(check(&[&largest[..], &[0]].concat()), "refused 7\n");
 }
 
-/// Down -35 the train can brake to a stop, and not to the release speed that the level overlap gives.
+/// Down -35 the train can brake to a stop, and not to the release speed that it has there, its wagons still on the fall.
 #[test]
 fn a_refused_signal() {
     let line = Line {

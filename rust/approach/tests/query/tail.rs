@@ -1,6 +1,6 @@
 //! Document 02, Card 2: the gradient ahead counts from the tail, and that of the overlap from where the tail is with the head at
 //! the signal.
-use super::asked::{accepted, check, sheet};
+use super::asked::{accepted, answer, check, sheet};
 use approach::{Approach, Brake, Metre, Train};
 use inputs::{Query, Random, EXAMPLE_TRAIN};
 use std::collections::BTreeMap;
@@ -52,8 +52,8 @@ fn about(random: &mut Random, stands: Stands, length: u32, start: u32, point: u3
     })
 }
 
-/// The tail one metre before a stretch's start, on it and one metre behind it. What is counted is how often the second stretch,
-/// had it started one metre further on, would have had another answer: with the tail on its start there is one point more.
+/// The tail one metre before a stretch's start, on it and one metre behind it. What is counted is how often the answer is another
+/// where that stretch starts one metre further on: it mostly is with the tail on the start, which then is the first stretch's.
 #[test]
 fn tails_about_a_start() {
     let mut random = Random(63);
@@ -63,7 +63,7 @@ fn tails_about_a_start() {
             for stands in [Stands::Ahead, Stands::AtTheSignal, Stands::AtTheBeginning] {
                 let (start, beside) = (1 + random.below_any(&[10, 2000]), round % 3);
                 let [q, moved] = about(&mut random, stands, length, start, start + beside - 1);
-                let differs = check(&q) != check(&moved);
+                let differs = check(&q) != answer(&moved);
                 *told.entry((stands, length, beside)).or_insert(0) += differs as u32;
             }
         }
