@@ -1,7 +1,7 @@
 //! Document 02, Card 2: the gradient ahead counts from the tail, and that of the overlap from where the tail is with the head at
 //! the signal.
 use super::asked::{accepted, answer, check, sheet};
-use approach::{Approach, Brake, Metre, Train};
+use approach::{Approach, Brake, Kmh, Metre, Train};
 use inputs::{Query, Random, EXAMPLE_TRAIN};
 use std::collections::BTreeMap;
 
@@ -16,7 +16,7 @@ enum Stands {
     AtTheBeginning,
 }
 
-/// Head and signal, such that the tail is at a point of the line, or is none of it.
+/// Head and signal, such that the tail of the train there is at a point of the line; at the beginning it is at none.
 fn places(random: &mut Random, stands: Stands, length: u32, point: u32) -> (u32, u32) {
     let way = random.below_any(&[1, 300, 3000]);
     let there = point + length;
@@ -30,7 +30,7 @@ fn places(random: &mut Random, stands: Stands, length: u32, point: u32) -> (u32,
     }
 }
 
-/// Mostly a fall behind a level.
+/// Of two stretches: mostly a fall, and a level ahead of it.
 fn slopes(random: &mut Random) -> [i16; 2] {
     match random.below(4) {
         0 => [0, 1].map(|_| random.below(71) as i16 - 35),
@@ -77,21 +77,21 @@ fn tails_about_a_start() {
 }
 
 /// A passenger train with its brake working has the same distances at any length, so gradients alone tell answers apart.
-fn from(length: u32, head: u32, stretches: &[(u32, i16)], overlap: u16) -> Approach {
-    let train = Train { length: Metre(length), ..EXAMPLE_TRAIN };
-    accepted(&Query { train, head, ..Query::printed(sheet(stretches, &[(3000, overlap)], 5000)) })
+fn from(length: u32, head: u32, stretches: &[(u32, i16)], signal: (u32, u16)) -> Approach {
+    let train = Train { length: Metre(length), top_speed: Kmh(330), ..EXAMPLE_TRAIN };
+    accepted(&Query { train, head, ..Query::printed(sheet(stretches, &[signal], 5000)) })
 }
 
 /// Said without the reference: which points count, with the tail before, on and behind a stretch's start.
 #[test]
 fn which_points_count() {
     for length in LENGTHS {
-        let ahead = |stretches: &[_]| from(length, 2400, stretches, 0).permitted;
+        let ahead = |stretches: &[_]| from(length, 2400, stretches, (3000, 0)).permitted;
         let (level, falling, tail) = (ahead(&[(0, 0)]), ahead(&[(0, -10)]), 2400 - length);
         assert!(falling < level, "{length} m");
         let on = [tail - 1, tail, tail + 1].map(|start| ahead(&[(0, -10), (start, 0)]));
         assert_eq!(on, [level, level, falling], "{length} m ahead");
-        let past = |stretches: &[_]| from(length, 2400, stretches, 120).release;
+        let past = |stretches: &[_]| from(length, 2400, stretches, (3000, 120)).release;
         let (level, falling, tail) = (past(&[(0, 0)]), past(&[(0, -20)]), 3000 - length);
         assert!(falling < level, "{length} m");
         let on = [tail - 1, tail, tail + 1].map(|start| past(&[(0, -20), (start, 0)]));
@@ -99,24 +99,20 @@ fn which_points_count() {
     }
 }
 
-/// A train longer than the way behind its head is no other case: its tail counts as at 0.
+/// A train longer than the line behind its head is no other case: its tail counts as at 0.
 #[test]
 fn at_the_lines_beginning() {
     for length in LENGTHS {
-        let at = |head, stretches: &[_]| from(length, head, stretches, 0);
-        for head in [0, length / 2, length.saturating_sub(1), length] {
-            assert_eq!(at(head, &[(0, -10), (1, 0)]), at(head, &[(0, -10)]), "{length} m from {head}");
+        let ahead = |head, stretches: &[_]| from(length, head, stretches, (3000, 0)).permitted;
+        let past = |place, stretches: &[_]| from(length, 0, stretches, (place, 120)).release;
+        for place in [0, length / 2, length.saturating_sub(1), length, length + 1] {
+            // Only its first metre falls.
+            let [permitted, release] = [ahead(place, &[(0, -20), (1, 0)]), past(place, &[(0, -20), (1, 0)])];
+            let [level, falling] = [0, -20].map(|slope| [ahead(place, &[(0, slope)]), past(place, &[(0, slope)])]);
+            assert!(falling[0] < level[0] && falling[1] < level[1], "{length} m at {place}");
+            let wanted = if place > length { level } else { falling };
+            assert_eq!([permitted, release], wanted, "{length} m at {place}");
         }
-        assert_eq!(at(length + 1, &[(0, -10), (1, 0)]), at(length + 1, &[(0, 0)]), "{length} m from {}", length + 1);
-        let past = |place, stretches: &[_]| {
-            let train = Train { length: Metre(length), ..EXAMPLE_TRAIN };
-            let line = sheet(stretches, &[(place, 120)], 2000);
-            accepted(&Query { train, ..Query::printed(line) }).release
-        };
-        for place in [0, length / 2, length] {
-            assert_eq!(past(place, &[(0, -20), (1, 0)]), past(place, &[(0, -20)]), "{length} m, signal at {place}");
-        }
-        assert_eq!(past(length + 1, &[(0, -20), (1, 0)]), past(length + 1, &[(0, 0)]), "{length} m");
     }
 }
 
@@ -137,7 +133,7 @@ fn the_tail_on_the_hill() {
     let (level, falling) = (on(&[(0, 0)]), on(&[(0, -12)]));
     let hill = on(&[(0, -12), (1000, 0)]);
     assert!(hill.permitted < level.permitted, "{hill:?} {level:?}");
-    // It has left the hill with its head at the signal, and so it would one that reached 900 m further.
+    // With its head at the signal it has left the hill, as it has one that ends at 1,900 m, but not one that ends at 1,901.
     assert_eq!((hill, hill.release), (on(&[(0, -12), (1900, 0)]), level.release));
     assert_eq!(on(&[(0, -12), (1901, 0)]), falling);
 }
