@@ -1,7 +1,8 @@
 -- A line that rises and falls, by the definitions: the gradients of its ways, and that agreement from the head on does not settle them.
-use mathlib.Core.Path.{_≡_, refl}
+use mathlib.Core.Path.{_≡_, refl, ap}
 use mathlib.Core.List.{List, [], _∷_}
 use Prim.Native.Nat.{ℕ, _≤_}
+use native.Mathlib.Omega.{arith}
 use borrow.Author.Tests.{le-leb}
 use Rattle.train.specs.declared.Gradient.{Gradient}
 use Rattle.train.specs.Units.{metres}
@@ -52,6 +53,6 @@ eased =
     ∷ 6 ∷ 0 ∷ 0 ∷ 0 ∷ 3 ∷ 0 ∷ []
 
 -- it is not enough to agree from the head on: with the head at 6 and an L of 1 the two ways differ
-pub not-from-the-head : ((p : ℕ) → 6 ≤ p → slopeAt (lineOf hilly) p ≡ slopeAt (lineOf eased) p) × (wayOf (lineOf eased) 0 6 1 ≡ leads 0 (up 3) (up 3))
+pub not-from-the-head : ((p : ℕ) → 6 ≤ p → slopeAt (lineOf hilly) p ≡ slopeAt (lineOf eased) p) × (wayOf (lineOf hilly) 0 6 1 ≡ wayOf (lineOf eased) 0 6 1 → ⊥)
 unfolding wayOf pastOf leastOf slopeUpTo u32At u16At signed
-not-from-the-head = ((λ p h. rw (le-leb 6 p h) refl), refl)
+not-from-the-head = ((λ p h. rw (le-leb 6 p h) refl), (λ e. let i : _≡_ {A = ℕ} 5 0 = ap (λ (w : Way). w .ahead .fall) e in omega arith))
