@@ -12,15 +12,22 @@ use Rattle.sheet_span.specs.Least.{slopeUpTo, slopeAt, leastOf}
 use Rattle.query_way.specs.declared.Way.{Way}
 use Rattle.query_way.specs.Way.{pastOf, wayOf}
 
--- stretches from 0 (10), 3 (-5, FB FF), 6 (3) and 9 (-20, EC FF); a signal at 6 with an overlap of 3; line end 12
-abbrev hilly : List ℕ
-hilly =
+-- stretches from 0 (10), 3 (in these two bytes), 6 (3) and 9 (-20, EC FF); a signal at 6 with an overlap of 3; line end 12
+abbrev line : ℕ → ℕ → List ℕ
+line low high =
     4 ∷ 0 ∷ 1 ∷ 0 ∷ 20 ∷ 0 ∷ 0 ∷ 0 ∷ 44 ∷ 0 ∷ 0 ∷ 0 ∷ 50 ∷ 0 ∷ 0 ∷ 0 ∷ 12 ∷ 0 ∷ 0 ∷ 0
     ∷ 0 ∷ 0 ∷ 0 ∷ 0 ∷ 10 ∷ 0
-    ∷ 3 ∷ 0 ∷ 0 ∷ 0 ∷ 251 ∷ 255
+    ∷ 3 ∷ 0 ∷ 0 ∷ 0 ∷ low ∷ high
     ∷ 6 ∷ 0 ∷ 0 ∷ 0 ∷ 3 ∷ 0
     ∷ 9 ∷ 0 ∷ 0 ∷ 0 ∷ 236 ∷ 255
     ∷ 6 ∷ 0 ∷ 0 ∷ 0 ∷ 3 ∷ 0 ∷ []
+
+-- with a fall of 5 (FB FF) before the signal, and with a rise of 4 there
+abbrev hilly : List ℕ
+hilly = line 251 255
+
+abbrev eased : List ℕ
+eased = line 4 0
 
 abbrev leads : ℕ → Gradient → Gradient → Way
 leads distance ahead past = record { distance = metres distance; ahead = ahead; overlap = metres 3; past = past }
@@ -41,16 +48,6 @@ Goes head length w = wayOf (lineOf hilly) 0 head length ≡ w
 pub ways : Goes 0 0 (leads 6 (down 5) (up 3)) × (Goes 5 0 (leads 1 (down 5) (up 3)) × (Goes 6 0 (leads 0 (up 3) (up 3)) × (Goes 6 1 (leads 0 (down 5) (down 5)) × (Goes 6 3 (leads 0 (down 5) (down 5)) × (Goes 2 6 (leads 4 (down 5) (down 5)) × Goes 6 1000 (leads 0 (down 5) (down 5)))))))
 unfolding wayOf pastOf leastOf slopeUpTo u32At u16At signed
 ways = (refl, (refl, (refl, (refl, (refl, (refl, refl))))))
-
--- the same line without its fall before the signal
-abbrev eased : List ℕ
-eased =
-    4 ∷ 0 ∷ 1 ∷ 0 ∷ 20 ∷ 0 ∷ 0 ∷ 0 ∷ 44 ∷ 0 ∷ 0 ∷ 0 ∷ 50 ∷ 0 ∷ 0 ∷ 0 ∷ 12 ∷ 0 ∷ 0 ∷ 0
-    ∷ 0 ∷ 0 ∷ 0 ∷ 0 ∷ 10 ∷ 0
-    ∷ 3 ∷ 0 ∷ 0 ∷ 0 ∷ 4 ∷ 0
-    ∷ 6 ∷ 0 ∷ 0 ∷ 0 ∷ 3 ∷ 0
-    ∷ 9 ∷ 0 ∷ 0 ∷ 0 ∷ 236 ∷ 255
-    ∷ 6 ∷ 0 ∷ 0 ∷ 0 ∷ 3 ∷ 0 ∷ []
 
 -- it is not enough to agree from the head on: with the head at 6 and an L of 1 the two ways differ
 pub not-from-the-head : ((p : ℕ) → 6 ≤ p → slopeAt (lineOf hilly) p ≡ slopeAt (lineOf eased) p) × (wayOf (lineOf hilly) 0 6 1 ≡ wayOf (lineOf eased) 0 6 1 → ⊥)

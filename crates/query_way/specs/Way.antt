@@ -58,8 +58,8 @@ pub record Leads (l : Line) (k head length : ℕ) (w : Way) : Type 0 where
   pub ahead : (tail : ℕ) × (Behind head length tail × LeastOver l tail (l .place k + 1) (w .ahead))
   pub past : 0 < w .overlap .0 → (tail : ℕ) × (Behind (l .place k) length tail × LeastOver l tail (l .place k + l .overlap k) (w .past))
 
--- Card 2: two lines agree on a signal each, and on the gradient at each point from the start of the gradient ahead, so from the p on that
--- are at most L behind the head, up to but not including the overlap's end, the signal's own point always included
+-- Card 2: two lines agree on a signal each, and on the gradient at each point p from the start of the gradient ahead, which is at most L
+-- behind the head, up to but not including the overlap's end, the signal's own point always included
 pub record Agree (l m : Line) (i j head length : ℕ) : Type 0 where
   pub place : l .place i ≡ m .place j
   pub overlap : l .overlap i ≡ m .overlap j
