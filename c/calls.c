@@ -1,10 +1,13 @@
 /* Each call, refusal and mark of include/approach.h, as a designer's tool would link it. What is expected is document 01's,
- * or worked out by hand from its formulas. Prints `N passed, M failed`. */
+ * or worked out by hand from its formulas and document 02's Card 5. Prints `N passed, M failed`. */
 #include "approach.h"
 #include <stdio.h>
 #include <string.h>
 
-_Static_assert(sizeof(struct approach_train) == 16 && offsetof(struct approach_train, braked_weight) == 4, "train");
+_Static_assert(sizeof(struct approach_inertia) == 20 && offsetof(struct approach_inertia, i2) == 16, "inertia");
+_Static_assert(sizeof(struct approach_coefficients) == 44 && offsetof(struct approach_coefficients, inertia) == 24, "coefficients");
+_Static_assert(sizeof(struct approach_train) == 60 && offsetof(struct approach_train, braked_weight) == 4, "train");
+_Static_assert(offsetof(struct approach_train, coefficients) == 16, "its coefficients behind what it had before");
 _Static_assert(sizeof(bool) == 1 && offsetof(struct approach_train, electropneumatic) == 1, "its bytes");
 _Static_assert(sizeof(struct approach_distances) == 20, "distances");
 _Static_assert(sizeof(struct approach_move) == 20 && offsetof(struct approach_move, mark) == 16, "move");
@@ -24,7 +27,7 @@ static void expect(const char *name, bool holds) {
 }
 
 /* EP, with a top speed of 91 so that a row from 90 has two places. */
-static const struct approach_train train = {false, true, 100, 200, 91};
+static const struct approach_train train = {false, true, 100, 200, 91, APPROACH_FIRST_VALUES};
 
 /* At V = V0 = 90 on the level: T = 1 + 1.3 * 3.5 = 5.55 s and 25 m/s. EBI = 25 T, SBI as much again, W and P 1.5 s more each. */
 enum { EBI = 138750, SBI = 277500, W = 315000, P = 352500 };
@@ -58,9 +61,93 @@ static void models(void) {
     expect_row("row_sbi", approach_row_sbi, SBI);
     expect_row("row_w", approach_row_w, W);
     expect_row("row_p", approach_row_p, P);
-    expect_ramp("ramp", approach_ramp(100, 0, 36, 200, 400), 110850);
-    expect_ramp("ramp while the brake rises", approach_ramp(100, 0, 1, 0, 3000), 903);
-    expect_ramp("ramp before the brake acts", approach_ramp(100, 35, 1, 2000, 1), 125);
+    const struct approach_inertia first = train.coefficients.inertia;
+    expect_ramp("ramp", approach_ramp(100, 0, 36, 200, 400, first), 110850);
+    expect_ramp("ramp while the brake rises", approach_ramp(100, 0, 1, 0, 3000, first), 903);
+    expect_ramp("ramp before the brake acts", approach_ramp(100, 35, 1, 2000, 1, first), 125);
+}
+
+/* The call and the initialiser give the same, field by field document 002's; neither record has a gap. */
+static void first_values(void) {
+    const struct approach_coefficients initialised = APPROACH_FIRST_VALUES, given = approach_first_values();
+    const struct approach_inertia inertia = {.ki1 = 90, .ki2 = 100, .ki3 = 110, .i1 = 0, .i2 = -21};
+    const struct approach_coefficients wanted = {
+        .dt = 130, .h = 10, .kr = 57, .cr = 5, .nc = 0, .vc = 150, .inertia = inertia};
+    expect("first values by the call", memcmp(&given, &wanted, sizeof wanted) == 0);
+    expect("first values by the initialiser", memcmp(&initialised, &wanted, sizeof wanted) == 0);
+}
+
+/* At V = V0 = 90 on the level, 25 m/s. Dt 2.00 and h 5.0: T = 5 + 2 * 3.5 = 12 s, EBI = 25 T and SBI 25 * (1 + 2 * 3.5) more. With
+ * neither T = 0: there is no run before the brake, and SBI is 25 * 1 more. */
+static void own_coefficients(void) {
+    struct approach_train slow = train, quick = train;
+    slow.coefficients.dt = 200;
+    slow.coefficients.h = 50;
+    quick.coefficients.dt = 0;
+    quick.coefficients.h = 0;
+    struct approach_distances d = approach_step(slow, 90, 90, 0), q = approach_step(quick, 90, 90, 0);
+    expect("a delay of its own", d.refusal == APPROACH_ACCEPTED && d.ebi == 300000 && d.sbi == 500000);
+    expect("no delay", q.refusal == APPROACH_ACCEPTED && q.ebi == 0 && q.sbi == 25000);
+    struct approach_train strong = train;
+    strong.coefficients.kr = 58;
+    expect("a brake of its own", approach_step(strong, 90, 0, 0).ebi < approach_step(train, 90, 0, 0).ebi);
+}
+
+/* From 1 km/h on 35 per mille the train stops before the brake acts, after (5/18)^2 / (2 di): with Ki1 1.20 di is 0.41202 m/s2 and
+ * that 93.637 mm; with i1 35 it is Ki2 that counts, 0.34335 m/s2 and 112.365 mm. The answer is less than 2 mm over. */
+static void own_inertia(void) {
+    struct approach_inertia steep = train.coefficients.inertia, late = steep;
+    steep.ki1 = 120;
+    late.i1 = 35;
+    expect_ramp("ramp with a Ki1 of its own", approach_ramp(100, 35, 1, 2000, 1, steep), 94);
+    expect_ramp("ramp with an i1 of its own", approach_ramp(100, 35, 1, 2000, 1, late), 113);
+}
+
+/* A program from before the coefficients leaves them 0. */
+static void left_zero(void) {
+    const struct approach_train old = {.electropneumatic = true, .braked_weight = 100, .length = 200, .top_speed = 91};
+    const struct approach_inertia none = {0};
+    uint32_t row[2] = {7, 7};
+    expect("step of zeros", approach_step(old, 90, 0, 0).refusal == APPROACH_REFUSED_COEFFICIENT);
+    row_call *const calls[] = {approach_row_ebi, approach_row_sbi, approach_row_w, approach_row_p};
+    for (size_t k = 0; k < sizeof calls / sizeof *calls; k++) {
+        struct approach_written written = calls[k](old, 90, 0, row, 2);
+        expect("row of zeros", written.refusal == APPROACH_REFUSED_COEFFICIENT && row[0] == 7 && row[1] == 7);
+    }
+    expect("ramp of zeros", approach_ramp(100, 0, 36, 200, 400, none).refusal == APPROACH_REFUSED_COEFFICIENT);
+    struct approach_answer answer = approach_query(old, 200, 400, example, sizeof example, 1, 0);
+    expect("query of zeros", answer.refusal == APPROACH_REFUSED_COEFFICIENT && answer.permitted == 0);
+}
+
+/* With nC -0.010 above VC 0 nothing is left of the brake at 100 km/h, and on the level dp is 0.05 m/s2 or more up to 88: there it is
+ * 0.57 * 0.779 * 0.12 = 0.0533, and 0.0489 at 89. A row is refused by its top speed, though its V0 is strong and also where its list
+ * is too short; a climb to a far signal ends at 88. */
+static void weak_at_the_top(void) {
+    struct approach_train t = train;
+    t.coefficients.nc = -10;
+    t.coefficients.vc = 0;
+    uint32_t row[92];
+    memset(row, 7, sizeof row);
+    t.top_speed = 88;
+    struct approach_written strong = approach_row_p(t, 0, 0, row, 92);
+    expect("row strong at the top", strong.refusal == APPROACH_ACCEPTED && strong.length == 89);
+    t.top_speed = 89;
+    memset(row, 7, sizeof row);
+    struct approach_written weak = approach_row_p(t, 0, 0, row, 92), brief = approach_row_p(t, 0, 0, row, 1);
+    bool untouched = true;
+    for (size_t k = 0; k < 92; k++) {
+        untouched = untouched && row[k] == 0x07070707;
+    }
+    expect("row too weak at the top", weak.refusal == APPROACH_REFUSED_WEAK_BRAKE && weak.length == 0 && untouched);
+    expect("and in too few places", brief.refusal == APPROACH_REFUSED_WEAK_BRAKE && brief.length == 0);
+    const uint32_t starts[] = {0}, places[] = {40000};
+    const int16_t gradients[] = {0};
+    const uint16_t overlaps[] = {0};
+    uint8_t sheet[APPROACH_SHEET_LENGTH(1, 1)];
+    approach_sheet_write(starts, 1, gradients, 1, places, 1, overlaps, 1, 50000, sheet, sizeof sheet);
+    struct approach_answer answer = approach_query(t, 200, 400, sheet, sizeof sheet, 0, 0);
+    bool accepted = answer.refusal == APPROACH_ACCEPTED && answer.mark == APPROACH_MARK_CURVE;
+    expect("query, the climb ended for lack of brake", accepted && answer.permitted == 88);
 }
 
 typedef struct approach_limits limits_call(uint32_t);
@@ -196,38 +283,45 @@ static void tail(void) {
     expect("query, the tail on the fall", memcmp(&of_201, &on, sizeof on) == 0);
 }
 
-/* The header's constant and the call's answer are document 01's number. */
+/* The header's constant and the call's answer are document 01's number, or document 02's. */
 static void expect_refusal(uint32_t number, uint32_t constant, uint32_t refusal) {
     char name[16];
     snprintf(name, sizeof name, "refusal %u", (unsigned)number);
     expect(name, constant == number && refusal == number);
 }
 
-/* What document 01 gives as an example of each; a head beyond its own sheet's second signal. */
+/* What document 01 gives as an example of each; a head beyond its own sheet's second signal; a VC off its step. */
 static void refusals(void) {
     static const uint8_t no_stretch[20] = {0, 0, 0, 0, 20, 0, 0, 0, 20, 0, 0, 0, 20, 0, 0, 0, 0xD0, 0x07, 0, 0};
     const size_t length = sizeof example;
-    struct approach_train odd = train, too_long = train, weak = train;
+    struct approach_train odd = train, too_long = train, weak = train, off = train;
     odd.braked_weight = 47;
     too_long.length = 1001;
     weak.braked_weight = 45;
+    off.coefficients.vc = 151;
     uint32_t row[2] = {7, 7};
     expect_refusal(1, APPROACH_REFUSED_WEIGHT, approach_step(odd, 90, 0, 0).refusal);
     expect_refusal(2, APPROACH_REFUSED_LENGTH, approach_step(too_long, 90, 0, 0).refusal);
     expect_refusal(3, APPROACH_REFUSED_SPEED, approach_step(train, 50, 400, 0).refusal);
     expect_refusal(4, APPROACH_REFUSED_TARGET, approach_step(train, 50, 51, 0).refusal);
     expect_refusal(5, APPROACH_REFUSED_GRADIENT, approach_step(train, 90, 0, 36).refusal);
-    expect_refusal(6, APPROACH_REFUSED_TIMES, approach_ramp(100, 0, 36, 200, 0).refusal);
+    expect_refusal(6, APPROACH_REFUSED_TIMES, approach_ramp(100, 0, 36, 200, 0, train.coefficients.inertia).refusal);
     expect_refusal(7, APPROACH_REFUSED_SHEET, approach_sheet_stretch(no_stretch, sizeof no_stretch, 0).refusal);
     expect_refusal(8, APPROACH_REFUSED_NUMBER, approach_query(train, 200, 400, example, length, 2, 0).refusal);
     expect_refusal(9, APPROACH_REFUSED_HEAD, approach_query(train, 200, 400, example, length, 1, 1058).refusal);
     expect_refusal(10, APPROACH_REFUSED_WEAK_BRAKE, approach_step(weak, 90, 0, -19).refusal);
     expect_refusal(11, APPROACH_REFUSED_ROOM, approach_row_ebi(train, 89, 0, row, 2).refusal);
+    expect_refusal(12, APPROACH_REFUSED_COEFFICIENT, approach_step(off, 90, 0, 0).refusal);
     expect("row in too few places", row[0] == 7 && row[1] == 7);
 }
 
 int main(void) {
     models();
+    first_values();
+    own_coefficients();
+    own_inertia();
+    left_zero();
+    weak_at_the_top();
     ceilings();
     bytes();
     longest_row();

@@ -2,7 +2,13 @@
 #include <stdio.h>
 
 int main(void) {
-    struct approach_train train = {.electropneumatic = true, .braked_weight = 100, .length = 200, .top_speed = 100};
+    struct approach_train train = {
+        .electropneumatic = true,
+        .braked_weight = 100,
+        .length = 200,
+        .top_speed = 100,
+        .coefficients = APPROACH_FIRST_VALUES,
+    };
 
     /* From 90 km/h to a stop on the level. */
     struct approach_distances d = approach_step(train, 90, 0, 0);

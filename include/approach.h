@@ -7,7 +7,8 @@
  * elements lie behind it, never NULL, also where there are none; no two lists of one call may overlap where one of them
  * is written.
  *
- * Every answer begins with `refusal`: 0 where it is accepted, else the lowest number that applies, and all else is 0.
+ * Every answer to inputs begins with `refusal`: 0 where it is accepted, else a number, and all else is 0. Of all that apply it is
+ * the first in this order: 1, 2, 3, 4, 5, 6, 12, 7, 8, 9, 10, 11.
  */
 #ifndef APPROACH_H
 #define APPROACH_H
@@ -32,11 +33,35 @@ enum approach_refusal {
     APPROACH_REFUSED_SHEET = 7,         /* the bytes are no line sheet, or the fields make none */
     APPROACH_REFUSED_NUMBER = 8,        /* no such signal or stretch */
     APPROACH_REFUSED_HEAD = 9,          /* head beyond the signal */
-    /* Brake and slope together decelerate by less than 0.05 m/s2, in a model consulted. The brake counts least at V0, and there
-     * a row and a query decide (a query's V0 is its release speed): a single distance from a higher V may be accepted. */
+    /* Brake and slope together decelerate by less than 0.05 m/s2, in a model consulted. A row is refused if any of its speeds is
+     * too weak, a query if its V0, the release speed, is: a too weak speed above it ends the climb to the permitted one. */
     APPROACH_REFUSED_WEAK_BRAKE = 10,
     APPROACH_REFUSED_ROOM = 11,         /* the list or buffer is too short for the output */
+    APPROACH_REFUSED_COEFFICIENT = 12,  /* a coefficient of the train, or of the ramp, outside its span or step */
 };
+
+/* What turning masses make of a slope: the factor of its deceleration, in hundredths, and the gradients that part the three. */
+struct approach_inertia {
+    uint32_t ki1; /* hundredths, 80 to 120: on gradients above i1 */
+    uint32_t ki2; /* hundredths, 80 to 120: on gradients above i2, up to i1 */
+    uint32_t ki3; /* hundredths, 80 to 120: on gradients of i2 and below */
+    uint32_t i1;  /* per mille, 0 to 35 */
+    int32_t i2;   /* per mille, -35 to 0 */
+};
+
+/* What document 002 leaves to each train, in its spans and steps. A record that was left 0 is refused by 12. */
+struct approach_coefficients {
+    uint32_t dt; /* hundredths, 0 to 200: the safety coefficient of the brake's delay */
+    uint32_t h;  /* tenths of a second, 0 to 50: the equipment's own delay */
+    uint32_t kr; /* hundredths, 30 to 150: how much of the nominal deceleration counts */
+    uint32_t cr; /* hundredths, 0 to 10: what a target speed takes off, by V0/V */
+    int32_t nc;  /* thousandths for each km/h above vc, -10 to 10: by how much more, or less, of the brake counts */
+    uint32_t vc; /* km/h, 0 to 400 in steps of 5 */
+    struct approach_inertia inertia;
+};
+
+/* Document 002's first values, as approach_first_values gives them: the initialiser of a struct approach_coefficients. */
+#define APPROACH_FIRST_VALUES {130, 10, 57, 5, 0, 150, {90, 100, 110, 0, -21}}
 
 /* A train. Of the first two fields the library takes the byte: 0 is no and any other yes, also one that is no value of C's own
  * `bool`, such as the 255 that is TRUE in other languages. */
@@ -46,12 +71,13 @@ struct approach_train {
     uint32_t braked_weight; /* braked weight percentage, 45 to 160 in steps of 5 */
     uint32_t length;        /* metres, 0 to 1,000; in a query gradients count from the tail, so much behind the head */
     uint32_t top_speed;     /* km/h of the service regime, 1 to 330 */
+    struct approach_coefficients coefficients; /* the train's own, or APPROACH_FIRST_VALUES */
 };
 
 /* The step model's four distances in millimetres, each raised to the least whole one not below the exact value. None is less
  * than the one before it. */
 struct approach_distances {
-    uint32_t refusal; /* 1, 2, 3, 4, 5, 10 */
+    uint32_t refusal; /* 1, 2, 3, 4, 5, 12, 10 */
     uint32_t ebi;     /* emergency brake intervention */
     uint32_t sbi;     /* service brake intervention */
     uint32_t w;       /* warning */
@@ -60,14 +86,14 @@ struct approach_distances {
 
 /* What a call that writes has written. */
 struct approach_written {
-    uint32_t refusal; /* of a row 1, 2, 3, 4, 5, 10, 11; of a sheet 7, 11 */
+    uint32_t refusal; /* of a row 1, 2, 3, 4, 5, 12, 10, 11; of a sheet 7, 11 */
     uint32_t length;  /* how many places of the row, or bytes of the sheet, from the first on; the rest is as it was */
 };
 
 /* How far past a closed signal a train gets that is braked there. A faster accepted run, alike in all else, gets further, and
  * neither number is less. */
 struct approach_stop {
-    uint32_t refusal;  /* 1, 3, 5, 6, 10 */
+    uint32_t refusal;  /* 1, 3, 5, 6, 12, 10 */
     uint32_t distance; /* millimetres: at no moment is the train further */
     uint32_t moment;   /* milliseconds: then it is less than 2 mm short of that */
 };
@@ -136,13 +162,15 @@ struct approach_move {
 
 /* What holds the permitted speed of an accepted answer. */
 enum approach_answer_mark {
-    APPROACH_MARK_CURVE = 1,   /* "curve": its P distance to the release speed; or, where it is the top speed, that alone */
+    /* "curve": the next speed's P distance to the release speed is longer than the way to the signal, or its brake is too weak; or,
+     * where it is the top speed, that alone */
+    APPROACH_MARK_CURVE = 1,
     APPROACH_MARK_RELEASE = 2, /* "release": the release speed, whose own P distance is longer than the way to the signal */
 };
 
 /* How fast a train may come up to a closed signal, and how fast it may creep past. */
 struct approach_answer {
-    uint32_t refusal;   /* 1, 2, 3, 6, 7, 8, 9, 10 */
+    uint32_t refusal;   /* 1, 2, 3, 6, 12, 7, 8, 9, 10 */
     uint32_t release;   /* release speed, km/h: braked at the signal from it or less, the train stays within the overlap */
     uint32_t permitted; /* permitted speed where the head stands, km/h */
     uint32_t mark;      /* an approach_answer_mark: "curve" also where no curve but the top speed ended the climb */
@@ -150,6 +178,9 @@ struct approach_answer {
     uint32_t sbi;
     uint32_t ebi;
 };
+
+/* Document 002's first values of the coefficients. */
+struct approach_coefficients approach_first_values(void);
 
 /* Distances from V to the target V0, both in km/h; the gradient in per mille, positive uphill. V may be above the top speed. */
 struct approach_distances approach_step(struct approach_train train, uint32_t v, uint32_t v0, int32_t gradient);
@@ -164,8 +195,9 @@ struct approach_written approach_row_w(struct approach_train train, uint32_t v0,
 struct approach_written approach_row_p(struct approach_train train, uint32_t v0, int32_t gradient, uint32_t *row, size_t places);
 
 /* The way past a closed signal from V in km/h. For the dead time TM, 0 to 2,000, the brake does nothing; in the rise time TR,
- * 1 to 3,000, it comes up to all it has; both in hundredths of a second. */
-struct approach_stop approach_ramp(uint32_t braked_weight, int32_t gradient, uint32_t v, uint32_t tm, uint32_t tr);
+ * 1 to 3,000, it comes up to all it has; both in hundredths of a second. Of the coefficients the slope's alone count. */
+struct approach_stop approach_ramp(
+    uint32_t braked_weight, int32_t gradient, uint32_t v, uint32_t tm, uint32_t tr, struct approach_inertia inertia);
 
 /* The ceilings of a permitted speed in km/h, 0 to 330. The first works them out by the paper's rule; the second only looks them up,
  * in a table of 993 numbers (W, SBI, EBI of 0 km/h, of 1 km/h, ..). Their answers are the same, of every number. A tool takes the

@@ -15,7 +15,12 @@ ghost use Rattle.sheet_mark.specs.Answer.{MoveAnswers};
 ghost use Rattle.sheet_writer.specs.Answer.{Writes};
 ghost use Rattle.query.specs.Answer.{QueryAnswers};
 ghost use Rattle.approach_train.specs.Entered.{trainOf};
+ghost use Rattle.approach_train.specs.Coefficients.{inertiaOf, coefficientsOf};
 use approach_train::Entered;
+use approach_train::EnteredCoefficients;
+use approach_train::EnteredInertia;
+use approach_train::coefficients_of;
+use approach_train::inertia_of;
 use approach_train::train_of;
 use ceilings::Limits;
 use query::Answer;
@@ -30,18 +35,28 @@ use train::Kmh;
 use train::Metre;
 use train::Written;
 
+// Document 002's first values, from which a designer goes on.
+#[no_mangle]
+pub extern "C" fn approach_first_values() -> EnteredCoefficients
+    ensures { λ r. ⌜ coefficientsOf r ≡ first ⌝ }
+{
+    approach_train::first_values()
+}
+
 #[no_mangle]
 pub extern "C" fn approach_step(train: Entered, v: u32, v0: u32, gradient: i32) -> Distances
-    ensures { λ r. ⌜ StepAnswers first (trainOf train) (gradientOf gradient) (kmh v) (kmh v0) r ⌝ }
+    ensures { λ r. ⌜ StepAnswers (coefficientsOf (train .coefficients)) (trainOf train) (gradientOf gradient) (kmh v) (kmh v0) r ⌝ }
 {
-    step::step(train_of(train), Kmh(v), Kmh(v0), gradient)
+    let k = coefficients_of(train);
+    step::step(k, train_of(train), Kmh(v), Kmh(v0), gradient)
 }
 
 // An enum cannot cross the border, so there is a row for each curve.
 fn row_of(curve: Curve, train: Entered, v0: u32, gradient: i32, row: &mut [u32]) -> Written
-    ensures { λ r. ⌜ RowAnswers first (trainOf train) (gradientOf gradient) curve (kmh v0) (now (row .entry)) r (now (row .exit)) ⌝ }
+    ensures { λ r. ⌜ RowAnswers (coefficientsOf (train .coefficients)) (trainOf train) (gradientOf gradient) curve (kmh v0) (now (row .entry)) r (now (row .exit)) ⌝ }
 {
-    step_row::row(curve, train_of(train), Kmh(v0), gradient, row)
+    let k = coefficients_of(train);
+    step_row::row(curve, k, train_of(train), Kmh(v0), gradient, row)
 }
 
 #[no_mangle]
@@ -51,7 +66,7 @@ pub extern "C" fn approach_row_ebi(
     gradient: i32,
     row: &mut [u32],
 ) -> Written
-    ensures { λ r. ⌜ RowAnswers first (trainOf train) (gradientOf gradient) Ebi (kmh v0) (now (row .entry)) r (now (row .exit)) ⌝ }
+    ensures { λ r. ⌜ RowAnswers (coefficientsOf (train .coefficients)) (trainOf train) (gradientOf gradient) Ebi (kmh v0) (now (row .entry)) r (now (row .exit)) ⌝ }
 {
     row_of(Curve::Ebi, train, v0, gradient, row)
 }
@@ -63,30 +78,37 @@ pub extern "C" fn approach_row_sbi(
     gradient: i32,
     row: &mut [u32],
 ) -> Written
-    ensures { λ r. ⌜ RowAnswers first (trainOf train) (gradientOf gradient) Sbi (kmh v0) (now (row .entry)) r (now (row .exit)) ⌝ }
+    ensures { λ r. ⌜ RowAnswers (coefficientsOf (train .coefficients)) (trainOf train) (gradientOf gradient) Sbi (kmh v0) (now (row .entry)) r (now (row .exit)) ⌝ }
 {
     row_of(Curve::Sbi, train, v0, gradient, row)
 }
 
 #[no_mangle]
 pub extern "C" fn approach_row_w(train: Entered, v0: u32, gradient: i32, row: &mut [u32]) -> Written
-    ensures { λ r. ⌜ RowAnswers first (trainOf train) (gradientOf gradient) W (kmh v0) (now (row .entry)) r (now (row .exit)) ⌝ }
+    ensures { λ r. ⌜ RowAnswers (coefficientsOf (train .coefficients)) (trainOf train) (gradientOf gradient) W (kmh v0) (now (row .entry)) r (now (row .exit)) ⌝ }
 {
     row_of(Curve::W, train, v0, gradient, row)
 }
 
 #[no_mangle]
 pub extern "C" fn approach_row_p(train: Entered, v0: u32, gradient: i32, row: &mut [u32]) -> Written
-    ensures { λ r. ⌜ RowAnswers first (trainOf train) (gradientOf gradient) P (kmh v0) (now (row .entry)) r (now (row .exit)) ⌝ }
+    ensures { λ r. ⌜ RowAnswers (coefficientsOf (train .coefficients)) (trainOf train) (gradientOf gradient) P (kmh v0) (now (row .entry)) r (now (row .exit)) ⌝ }
 {
     row_of(Curve::P, train, v0, gradient, row)
 }
 
 #[no_mangle]
-pub extern "C" fn approach_ramp(braked_weight: u32, gradient: i32, v: u32, tm: u32, tr: u32) -> Stop
-    ensures { λ r. ⌜ RampAnswers first (record { weight = «braked_weight»; gradient = gradientOf gradient; v = kmh v; tm = tm; tr = tr }) r ⌝ }
+pub extern "C" fn approach_ramp(
+    braked_weight: u32,
+    gradient: i32,
+    v: u32,
+    tm: u32,
+    tr: u32,
+    inertia: EnteredInertia,
+) -> Stop
+    ensures { λ r. ⌜ RampAnswers (inertiaOf inertia) (record { weight = «braked_weight»; gradient = gradientOf gradient; v = kmh v; tm = tm; tr = tr }) r ⌝ }
 {
-    ramp::ramp(braked_weight, gradient, Kmh(v), tm, tr)
+    ramp::ramp(braked_weight, gradient, Kmh(v), tm, tr, inertia_of(inertia))
 }
 
 #[no_mangle]
@@ -147,7 +169,8 @@ pub extern "C" fn approach_query(
     signal: u32,
     head: u32,
 ) -> Answer
-    ensures { λ r. ⌜ QueryAnswers first (trainOf train) tm tr (now (sheet .entry)) signal head r (now (sheet .exit)) ⌝ }
+    ensures { λ r. ⌜ QueryAnswers (coefficientsOf (train .coefficients)) (trainOf train) tm tr (now (sheet .entry)) signal head r (now (sheet .exit)) ⌝ }
 {
-    query::query(train_of(train), tm, tr, sheet, signal, Metre(head))
+    let k = coefficients_of(train);
+    query::query(k, train_of(train), tm, tr, sheet, signal, Metre(head))
 }

@@ -27,11 +27,12 @@ fn example_train() -> Train
     }
 }
 
-// Its answer with TM 2 s, TR 4 s and the head at 0.
+// Its answer with the first values, TM 2 s, TR 4 s and the head at 0.
 fn answer(s: &[u8], signal: u32) -> Answer
     ensures { λ r. ⌜ QueryAnswers first exampleTrain 200 400 (now (s .entry)) signal 0 r (now (s .exit)) ⌝ }
 {
-    query::query(example_train(), 200, 400, s, signal, Metre(0))
+    let k = train::first_values();
+    query::query(k, example_train(), 200, 400, s, signal, Metre(0))
 }
 
 // A space and a number.

@@ -4,11 +4,11 @@ use Prim.Native.Nat.{ℕ, _+_, _≤_}
 use lib.Dec.{lit≤, lit<}
 use lib.IntN.{pos}
 use Rattle.exact.specs.Fraction.{raised}
+use Rattle.train.specs.declared.Inertia.{Inertia}
 use Rattle.train.specs.Coefficients.{first}
 use Rattle.train.specs.Gradient.{gradientOf}
 use Rattle.train.specs.Refusal.{firstOf}
 use Rattle.train.specs.Units.{kmh}
-use Rattle.train.proofs.Spans.{first-within}
 use Rattle.train_slope.specs.Slope.{factor, di, dr}
 use Rattle.ramp_motion.specs.declared.Overrun.{Overrun}
 use Rattle.ramp_motion.specs.Motion as motion
@@ -20,16 +20,20 @@ use Rattle.ramp.specs.Answer.{overrun, strong, rampRefusals, stopOf, RampAnswer
 use Rattle.ramp.proofs.Always.{gets-to}
 use Rattle.ramp.proofs.Rising.{given}
 
+-- the slope's coefficients
+abbrev slope : Inertia
+slope = first .inertia
+
 -- every answer to this run is accepted, and from low to high millimetres
 abbrev pub Ranges : Overrun → ℕ → ℕ → Type 0
-Ranges o low high = (r : Stop) → RampAnswers first o r → (r .refusal ≡ 0) × ((low ≤ r .distance .0) × (r .distance .0 ≤ high))
+Ranges o low high = (r : Stop) → RampAnswers slope o r → (r .refusal ≡ 0) × ((low ≤ r .distance .0) × (r .distance .0 ≤ high))
 
 -- t is where it turns
-ranges : (o : Overrun) (low high t : ℕ) → firstOf (rampRefusals first o) ≡ 0 → Turns (planOf first o) t → low ≤ placeUp (planOf first o) t + 1 → placeUp (planOf first o) t + 1 ≤ high → Ranges o low high
+ranges : (o : Overrun) (low high t : ℕ) → firstOf (rampRefusals slope o) ≡ 0 → Turns (planOf slope o) t → low ≤ placeUp (planOf slope o) t + 1 → placeUp (planOf slope o) t + 1 ≤ high → Ranges o low high
 unfolding stopOf
 ranges o low high t z h a b r i =
     let e : r .refusal ≡ 0 = rw (i .answer, z) refl in
-    (e, rw (given first o r i e .distance-is, ← gets-to first o z first-within t h) (a, b))
+    (e, rw (given slope o r i e .distance-is, ← gets-to slope o z t h) (a, b))
 
 abbrev pub row : ℕ → ℕ → ℕ → ℕ → Overrun
 row i v tm tr = overrun 100 (gradientOf (pos i)) (kmh v) tm tr

@@ -1,4 +1,4 @@
--- A figure to hold, and that it holds of the definitions with the coefficients k: the words of both lists of figures.
+-- A figure to hold, and that it holds of the definitions with the coefficients k: the words of the lists of figures.
 use mathlib.Core.Path.{_≡_}
 use mathlib.Core.Bool.{Bool, true, false}
 use mathlib.Core.List.{List, [], _∷_}
@@ -54,7 +54,7 @@ Holds k (gives t v v0 i c n) = let d = stepOf k t (gradientOf i) (kmh v) (kmh v0
 Holds k (refuses t v v0 i n) = stepOf k t (gradientOf i) (kmh v) (kmh v0) .refusal ≡ n
 Holds k (larger t Passenger) = (freightDelay t <q passengerDelay t) × (delay t ≡ passengerDelay t)
 Holds k (larger t Freight) = (passengerDelay t <q freightDelay t) × (delay t ≡ freightDelay t)
-Holds k (reaches o t n) = inMillimetres (placeAt k o t) .0 ≡ n
+Holds k (reaches o t n) = inMillimetres (placeAt (k .inertia) o t) .0 ≡ n
 Holds k (limits v w sbi ebi) = limitsOf (kmh v) ≡ record { refusal = 0; w = record { 0 = w }; sbi = record { 0 = sbi }; ebi = record { 0 = ebi } }
 
 abbrev pub All : Coefficients → List Row → Type 0

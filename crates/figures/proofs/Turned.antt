@@ -1,4 +1,5 @@
--- Document 01, "What is turned away": the examples of its table, of the definitions, in one theorem; beside each the nearest that is not.
+-- Document 01, "What is turned away": the examples of its table, and Card 5's, of the definitions, in one theorem; beside each the nearest
+-- that is not.
 use mathlib.Core.Path.{_≡_, refl}
 use mathlib.Core.Bool.{true}
 use mathlib.Core.List.{List, [], _∷_}
@@ -8,12 +9,13 @@ use Rattle.lists.specs.Counted.{every, allHold}
 use Rattle.train.specs.declared.BrakeType.the-variants.{Passenger}
 use Rattle.train.specs.declared.Train.{Train}
 use Rattle.train.specs.Units.{kmh}
+use Rattle.train.specs.declared.Coefficients.{Coefficients}
 use Rattle.train.specs.Coefficients.{first}
 use Rattle.train.specs.Gradient.{gradientOf}
 use Rattle.train_slope.specs.Slope.{factor, di, dr}
 use Rattle.step_braking.specs.Braking.{K0, KC, dp, strong}
 use Rattle.step.specs.Answer.{stepOf}
-use Rattle.step_row.specs.Answer.{rowAnswer}
+use Rattle.step_row.specs.Answer.{strongRow, rowAnswer}
 use Rattle.ramp_motion.specs.Motion as motion
 use Rattle.ramp.specs.Answer as answer
 use Rattle.ramp.specs.Answer.{overrun, stopOf}
@@ -25,6 +27,7 @@ use Rattle.query_way.specs.Way.{wayOf}
 use Rattle.query_release.specs.Release.{releaseOf, weakPast}
 use Rattle.query.specs.Answer.{answerOf}
 use Rattle.figures.proofs.Rows.{train, ep}
+use Rattle.figures.proofs.Own.{braked, sloped}
 
 -- what is asked for
 pub data Call : Type 0 where
@@ -32,19 +35,30 @@ pub data Call : Type 0 where
   step : Train → ℕ → ℕ → ℤ → Call
   -- V0, and how many places are lent
   row : ℕ → ℕ → Call
+  -- coefficients, V0, and how many places are lent
+  rowWith : Coefficients → ℕ → ℕ → Call
   -- V, TM, TR
   ramp : ℕ → ℕ → ℕ → Call
+  -- coefficients, V, TR
+  rampWith : Coefficients → ℕ → ℕ → Call
   -- sheet, number
   stretch : List ℕ → ℕ → Call
   signal : List ℕ → ℕ → Call
   -- sheet, signal, head
   query : List ℕ → ℕ → ℕ → Call
+  -- coefficients, i of a single distance, sheet of a query
+  stepWith : Coefficients → ℤ → Call
+  queryWith : Coefficients → List ℕ → Call
 
 -- an EP train, BW 100, top speed 100, on the level where nothing else is said
 abbrev pub refusalOf : Call → ℕ
 refusalOf (step t v v0 i) = stepOf first t (gradientOf i) (kmh v) (kmh v0) .refusal
 refusalOf (row v0 room) = rowAnswer first (ep 100) (gradientOf (pos 0)) (kmh v0) room .refusal
-refusalOf (ramp v tm tr) = stopOf first (overrun 100 (gradientOf (pos 0)) (kmh v) tm tr) .refusal
+refusalOf (rowWith k v0 room) = rowAnswer k (ep 100) (gradientOf (pos 0)) (kmh v0) room .refusal
+refusalOf (rampWith k v tr) = stopOf (k .inertia) (overrun 100 (gradientOf (pos 0)) (kmh v) 200 tr) .refusal
+refusalOf (stepWith k i) = stepOf k (ep 100) (gradientOf i) (kmh 50) (kmh 0) .refusal
+refusalOf (queryWith k s) = answerOf k (ep 100) 200 400 s 0 0 .refusal
+refusalOf (ramp v tm tr) = stopOf (first .inertia) (overrun 100 (gradientOf (pos 0)) (kmh v) tm tr) .refusal
 refusalOf (stretch s k) = stretchOf s k .refusal
 refusalOf (signal s k) = signalOf s k .refusal
 refusalOf (query s k head) = answerOf first (ep 100) 200 400 s k head .refusal
@@ -93,9 +107,21 @@ examples =
     ∷ 9 turns-away query sheet 0 6 but-not query sheet 0 5
     ∷ 10 turns-away step (ep 45) 50 0 (negsuc 18) but-not step (ep 45) 50 0 (negsuc 17)
     ∷ 11 turns-away row 98 2 but-not row 98 3
+    -- Card 5: 0.44403 · (1 - 0.010 · (100 - VC)) at the top speed is 0.044403 with a VC of 10, 0.0666045 with 15; 10 before 11
+    ∷ 10 turns-away rowWith (braked 130 10 57 5 (negsuc 9) 10) 0 0 but-not rowWith (braked 130 10 57 5 (negsuc 9) 15) 0 101
+    -- each end of Kr and of VC's steps; an i2 uphill; coefficients left 0
+    ∷ 12 turns-away stepWith (braked 130 10 29 5 (pos 0) 150) (pos 0) but-not stepWith (braked 130 10 30 5 (pos 0) 150) (pos 0)
+    ∷ 12 turns-away stepWith (braked 130 10 57 5 (pos 0) 152) (pos 0) but-not stepWith (braked 130 10 57 5 (pos 0) 155) (pos 0)
+    ∷ 12 turns-away rampWith (sloped 90 100 110 0 (pos 1)) 50 400 but-not rampWith (sloped 90 100 110 0 (pos 0)) 50 400
+    ∷ 12 turns-away rowWith (braked 0 0 0 0 (pos 0) 0) 98 3 but-not rowWith (braked 0 0 30 0 (pos 0) 0) 98 3
+    -- behind 5 and 6, before 7 and 10
+    ∷ 5 turns-away stepWith (braked 130 10 29 5 (pos 0) 150) (pos 36) but-not stepWith (braked 130 10 30 5 (pos 0) 150) (pos 35)
+    ∷ 6 turns-away rampWith (sloped 79 100 110 0 (negsuc 20)) 50 0 but-not rampWith (sloped 80 100 110 0 (negsuc 20)) 50 1
+    ∷ 12 turns-away queryWith (braked 130 10 57 5 (negsuc 10) 150) bare but-not queryWith (braked 130 10 57 5 (negsuc 9) 150) sheet
+    ∷ 12 turns-away stepWith (sloped 90 100 121 0 (negsuc 20)) (negsuc 34) but-not stepWith (sloped 90 100 80 0 (negsuc 20)) (negsuc 34)
     ∷ []
 
 pub turned-away : All examples
-unfolding examples stepOf strong dp KC K0 dr di factor rowAnswer stopOf answer.strong motion.dp stretchOf signalOf accepted keeps allHold every u32At u16At signed answerOf weakPast releaseOf wayOf leastOf slopeUpTo
+unfolding examples stepOf strong dp KC K0 dr di factor rowAnswer strongRow stopOf answer.strong motion.dp stretchOf signalOf accepted keeps allHold every u32At u16At signed answerOf weakPast releaseOf wayOf leastOf slopeUpTo
 turned-away =
-    ((refl, refl), ((refl, refl), ((refl, refl), ((refl, refl), ((refl, refl), ((refl, refl), ((refl, refl), ((refl, refl), ((refl, refl), ((refl, refl), ((refl, refl), ((refl, refl), ((refl, refl), tt)))))))))))))
+    ((refl, refl), ((refl, refl), ((refl, refl), ((refl, refl), ((refl, refl), ((refl, refl), ((refl, refl), ((refl, refl), ((refl, refl), ((refl, refl), ((refl, refl), ((refl, refl), ((refl, refl), ((refl, refl), ((refl, refl), ((refl, refl), ((refl, refl), ((refl, refl), ((refl, refl), ((refl, refl), ((refl, refl), ((refl, refl), tt))))))))))))))))))))))

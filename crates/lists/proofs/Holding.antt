@@ -35,6 +35,17 @@ unfolding every
 every-of zero rule h = refl
 every-of (suc n) rule h = rw (every-of n rule (λ k l. h k (omega arith)), h n (omega arith))
 
+-- where not every rule holds, one does not
+pub every-not : (n : ℕ) (rule : ℕ → Bool) → every n rule ≡ false → (k : ℕ) × ((k < n) × (rule k ≡ false))
+unfolding every
+every-not zero rule e = no (sym e)
+every-not (suc n) rule e = go (every n rule) (rule n) refl refl e (λ h. every-not n rule h)
+  where
+    go : (a b : Bool) → every n rule ≡ a → rule n ≡ b → a && b ≡ false → (every n rule ≡ false → (k : ℕ) × ((k < n) × (rule k ≡ false))) → (k : ℕ) × ((k < suc n) × (rule k ≡ false))
+    go false b h f e ih = let (k, (l, r)) = ih h in (k, (omega arith, r))
+    go true false h f e ih = (n, (omega arith, f))
+    go true true h f e ih = no (sym e)
+
 -- each rule of a list is true
 abbrev pub EachHolds : List Bool → Type 0
 EachHolds [] = Unit

@@ -1,18 +1,17 @@
 -- Two accepted sheets that agree on the chosen signal and on the gradient at each point of the span, from the tail on, get the same answer.
 use mathlib.Core.Path.{_≡_, refl, sym, ap, _∙_}
-use mathlib.Core.Bool.{true, false, cond}
+use mathlib.Core.Bool.{true, cond}
 use mathlib.Core.List.{List, _++_}
 use mathlib.Core.Logic.{⊎-elim}
 use Prim.Native.Nat.{ℕ, _≤_, _<_}
 use native.Mathlib.Omega.{arith}
 use native.Mathlib.Nat.{not-le-of-lt}
-use borrow.Author.Tests.{lt-leb, ltb-false}
-use lib.Dec.{ltb, eqb}
+use borrow.Author.Tests.{lt-leb}
+use lib.Dec.{eqb}
 use Rattle.lists.proofs.Split.{below}
 use Rattle.train.specs.declared.Train.{Train}
 use Rattle.train.specs.declared.Coefficients.{Coefficients}
-use Rattle.train.specs.Refusal.{Refusal, firstOf, trainRefusals}
-use Rattle.train.proofs.Refusals.{none-holds}
+use Rattle.train.specs.Refusal.{Refusal, firstOf, trainRefusals, coefficientRefusals}
 use Rattle.ramp.specs.Answer.{timeRefusals}
 use Rattle.sheet.specs.Sheet as sheet
 use Rattle.sheet.specs.Sheet.{lineOf}
@@ -21,20 +20,20 @@ use Rattle.query_way.specs.Way.{wayRefusals, Agree}
 use Rattle.query_way.proofs.Ways.{same-way}
 use Rattle.query.specs.declared.Answer.{Answer}
 use Rattle.query.specs.Answer.{refused, brakeRefusals, accepted, inputs, wayTo, answerOf, QueryAnswers}
-use Rattle.query.proofs.Answers.{inputs-rising, by-inputs}
+use Rattle.query.proofs.Answers.{inputs-judge, by-inputs}
 
 module _ (k : Coefficients) (t : Train) (tm tr : ℕ) (s z : List ℕ) (i j head : ℕ) where
   -- the answer from what the sheet turns away and what it says of the way
   abbrev from : List Refusal → Way → Answer
   from r w =
-      let n = firstOf ((trainRefusals t ++ (timeRefusals tm tr ++ r)) ++ brakeRefusals k t tm tr w) in
+      let n = firstOf ((trainRefusals t ++ (timeRefusals tm tr ++ (coefficientRefusals k ++ r))) ++ brakeRefusals k t tm tr w) in
       cond (eqb n 0) (accepted k t tm tr w) (refused n)
 
   module _ (is : sheet.accepted s ≡ true) (other : sheet.accepted z ≡ true) (first : i < lineOf s .signals) (second : j < lineOf z .signals) (a : Agree (lineOf s) (lineOf z) i j head (t .length .0)) where
     same-refusals : wayRefusals s i head ≡ wayRefusals z j head
     same-refusals = rw (is, other, lt-leb _ _ first, lt-leb _ _ second, a .place) refl
 
-    same-inputs : inputs t tm tr s i head ≡ inputs t tm tr z j head
+    same-inputs : inputs k t tm tr s i head ≡ inputs k t tm tr z j head
     same-inputs = rw same-refusals refl
 
     same-on-way : head ≤ lineOf s .place i → answerOf k t tm tr s i head ≡ answerOf k t tm tr z j head
@@ -46,12 +45,10 @@ module _ (k : Coefficients) (t : Train) (tm tr : ℕ) (s z : List ℕ) (i j head
         ⊎-elim
         (λ l. sym (by-inputs k t tm tr s i head _ l refl .answer) ∙ by-inputs k t tm tr z j head _ l (ap firstOf (sym same-inputs)) .answer)
         (λ l. absurd (not-turned (omega arith)))
-        (below 0 (firstOf (inputs t tm tr s i head)))
+        (below 0 (firstOf (inputs k t tm tr s i head)))
       where
-        not-turned : firstOf (inputs t tm tr s i head) ≡ 0 → ⊥
-        not-turned e =
-            let b : ltb (lineOf s .place i) head ≡ false = none-holds 0 (inputs t tm tr s i head) (inputs-rising k t tm tr s i head) e .1 .1 .1 .1 .1 .1 .1 .1 .1 .1 .1 .0 in
-            not-le-of-lt h (ltb-false _ _ b)
+        not-turned : firstOf (inputs k t tm tr s i head) ≡ 0 → ⊥
+        not-turned e = not-le-of-lt h (inputs-judge k t tm tr s i head .judged .accepted e .1 .1 .1 .1 .1 .1 .1 .0)
 
     pub agreed : answerOf k t tm tr s i head ≡ answerOf k t tm tr z j head
     agreed = ⊎-elim same-beyond same-on-way (below (lineOf s .place i) head)

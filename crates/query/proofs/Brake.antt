@@ -18,7 +18,7 @@ use Rattle.query.specs.Rules.{TooWeak}
 
 module _ (k : Coefficients) (t : Train) (tm tr : ℕ) (w : Way) where
   abbrev weak : Bool
-  weak = weakPast k (pastAt t tm tr w 1) (w .overlap)
+  weak = weakPast (k .inertia) (pastAt t tm tr w 1) (w .overlap)
 
   abbrev R : ℕ
   R = release k t tm tr w .0

@@ -1,4 +1,4 @@
--- Document 01, "Approach" and "What is turned away"; document 02, Card 2: what the query answers, and what it promises.
+-- Document 01, "Approach" and "What is turned away"; document 02, Cards 2 and 5: what the query answers, and what it promises.
 use mathlib.Core.Path.{_≡_}
 use mathlib.Core.Bool.{not, cond}
 use mathlib.Core.List.{List, [], _∷_, _++_}
@@ -8,7 +8,7 @@ use Rattle.train.specs.declared.Kmh.{Kmh}
 use Rattle.train.specs.declared.Train.{Train}
 use Rattle.train.specs.declared.Coefficients.{Coefficients}
 use Rattle.train.specs.Units.{kmh}
-use Rattle.train.specs.Refusal.{Refusal, _gives_, firstOf, trainRefusals}
+use Rattle.train.specs.Refusal.{Refusal, _gives_, firstOf, trainRefusals, coefficientRefusals}
 use Rattle.train.specs.Judged.{Judged}
 use Rattle.train.specs.Lent.{FirstDemand}
 use Rattle.step_braking.specs.Braking.{strong}
@@ -35,18 +35,18 @@ answered release permitted mark =
 
 module _ (k : Coefficients) (t : Train) (tm tr : ℕ) (w : Way) where
   abbrev pub release : Kmh
-  release = kmh (releaseOf k (pastAt t tm tr w 1) (w .overlap) (t .top))
+  release = kmh (releaseOf (k .inertia) (pastAt t tm tr w 1) (w .overlap) (t .top))
 
   -- refusal 10: in the ramp where it is consulted, and in the step model at V0, the release speed
   abbrev pub brakeRefusals : List Refusal
-  brakeRefusals = weakPast k (pastAt t tm tr w 1) (w .overlap) gives 10 ∷ not (strong k t (w .ahead) release release) gives 10 ∷ []
+  brakeRefusals = weakPast (k .inertia) (pastAt t tm tr w 1) (w .overlap) gives 10 ∷ not (strong k t (w .ahead) release release) gives 10 ∷ []
 
   abbrev pub accepted : Answer
   accepted = answered release (kmh (permittedOf k t (w .ahead) release (w .distance))) (markOf k t (w .ahead) release (w .distance))
 
--- 1, 2, 3, 6, 7, 8, 9
-abbrev pub inputs : Train → ℕ → ℕ → List ℕ → ℕ → ℕ → List Refusal
-inputs t tm tr s signal head = trainRefusals t ++ (timeRefusals tm tr ++ wayRefusals s signal head)
+-- 1, 2, 3, 6, 12, 7, 8, 9
+abbrev pub inputs : Coefficients → Train → ℕ → ℕ → List ℕ → ℕ → ℕ → List Refusal
+inputs k t tm tr s signal head = trainRefusals t ++ (timeRefusals tm tr ++ (coefficientRefusals k ++ wayRefusals s signal head))
 
 -- what the sheet says of the train's way
 abbrev pub wayTo : Train → List ℕ → ℕ → ℕ → Way
@@ -54,7 +54,7 @@ wayTo t s signal head = wayOf (lineOf s) signal head (t .length .0)
 
 module _ (k : Coefficients) (t : Train) (tm tr : ℕ) (s : List ℕ) (signal head : ℕ) where
   abbrev pub queryRefusals : List Refusal
-  queryRefusals = inputs t tm tr s signal head ++ brakeRefusals k t tm tr (wayTo t s signal head)
+  queryRefusals = inputs k t tm tr s signal head ++ brakeRefusals k t tm tr (wayTo t s signal head)
 
   unfoldable pub answerOf : Answer
   answerOf = cond (eqb (firstOf queryRefusals) 0) (accepted k t tm tr (wayTo t s signal head)) (refused (firstOf queryRefusals))

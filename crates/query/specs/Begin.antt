@@ -10,7 +10,8 @@ use Rattle.train.specs.declared.Gradient.{Gradient}
 use Rattle.train.specs.declared.Coefficients.{Coefficients}
 use Rattle.train.specs.Units.{kmh}
 use Rattle.train.specs.Gradient.{Moderate}
-use Rattle.train.specs.Refusal.{firstOf, trainRefusals}
+use Rattle.train.specs.Coefficients.{Within}
+use Rattle.train.specs.Refusal.{firstOf, trainRefusals, coefficientRefusals}
 use Rattle.step_braking.specs.Braking.{strong}
 use Rattle.ramp.specs.Answer.{timeRefusals}
 use Rattle.sheet.specs.Sheet.{lineOf}
@@ -24,10 +25,12 @@ use Rattle.query.specs.declared.Answer.{Answer}
 use Rattle.query.specs.Demand.{pastAt}
 use Rattle.query.specs.Answer.{refused, answered, release, inputs, wayTo}
 
--- the train, the times and the way's gradients are accepted
-pub record Fit (t : Train) (tm tr : ℕ) (w : Way) : Type 0 where
+-- the train, the times, the coefficients and the way's gradients are accepted
+pub record Fit (k : Coefficients) (t : Train) (tm tr : ℕ) (w : Way) : Type 0 where
   pub train : firstOf (trainRefusals t) ≡ 0
   pub times : firstOf (timeRefusals tm tr) ≡ 0
+  pub coefficients : firstOf (coefficientRefusals k) ≡ 0
+  pub within : Within k
   pub ahead : Moderate (w .ahead)
   pub past : Moderate (w .past)
 
@@ -38,15 +41,15 @@ pub record FitAhead (t : Train) (g : Gradient) (release : Kmh) : Type 0 where
   pub speeds : release .0 ≤ t .top .0
   pub top : t .top .0 ≤ 330
 
-module _ (t : Train) (tm tr : ℕ) (s : List ℕ) (signal head : ℕ) where
+module _ (k : Coefficients) (t : Train) (tm tr : ℕ) (s : List ℕ) (signal head : ℕ) where
   pub record IsReady (w : Way) : Type 0 where
-    pub accepted : firstOf (inputs t tm tr s signal head) ≡ 0
+    pub accepted : firstOf (inputs k t tm tr s signal head) ≡ 0
     pub way : w ≡ wayTo t s signal head
     pub leads : Leads (lineOf s) signal head (t .length .0) w
-    pub fit : Fit t tm tr w
+    pub fit : Fit k t tm tr w
 
   abbrev pub Starts : Found → Type 0
-  Starts (Refused n) = (0 < n) × (firstOf (inputs t tm tr s signal head) ≡ n)
+  Starts (Refused n) = (0 < n) × (firstOf (inputs k t tm tr s signal head) ≡ n)
   Starts (Ready w) = IsReady w
 
 -- the answer with a release speed, and on a way
@@ -55,4 +58,4 @@ module _ (k : Coefficients) (t : Train) where
   answerAt g d v0 = cond (strong k t g v0 v0) (answered v0 (kmh (permittedOf k t g v0 d)) (markOf k t g v0 d)) (refused 10)
 
   unfoldable pub answerOn : ℕ → ℕ → Way → Answer
-  answerOn tm tr w = cond (weakPast k (pastAt t tm tr w 1) (w .overlap)) (refused 10) (answerAt (w .ahead) (w .distance) (release k t tm tr w))
+  answerOn tm tr w = cond (weakPast (k .inertia) (pastAt t tm tr w 1) (w .overlap)) (refused 10) (answerAt (w .ahead) (w .distance) (release k t tm tr w))

@@ -1,4 +1,4 @@
--- The desk's third demand, of an answer to an accepted query; document 01, "Approach"; document 02, Card 13.
+-- The desk's third demand, of an answer to an accepted query; document 01, "Approach"; document 02, Cards 5 and 13.
 use mathlib.Core.Path.{_≡_}
 use mathlib.Core.Logic.{_⊎_, _↔_}
 use Prim.Native.Nat.{ℕ, _+_, _≤_, _<_}
@@ -22,7 +22,7 @@ pastAt t tm tr w v = overrun (t .weight) (w .past) (kmh v) tm tr
 module _ (k : Coefficients) (t : Train) (tm tr : ℕ) (w : Way) where
   -- in metres: the place past the signal, p / q seconds after it; the overlap's end; the distance to the signal
   abbrev pub place : ℕ → ℕ → ℕ → Fraction
-  place v p q = placeAt k (record { weight = t .weight; gradient = w .past; v = kmh v; tm = tm; tr = tr }) (p over q)
+  place v p q = placeAt (k .inertia) (record { weight = t .weight; gradient = w .past; v = kmh v; tm = tm; tr = tr }) (p over q)
 
   abbrev pub end : Fraction
   end = whole (w .overlap .0)
@@ -30,22 +30,29 @@ module _ (k : Coefficients) (t : Train) (tm tr : ℕ) (w : Way) where
   abbrev pub toSignal : Fraction
   toSignal = whole (w .distance .0)
 
-  -- dp + di past the signal, and ahead of it at the release speed
+  -- dp + di past the signal, and ahead of it at a speed that is braked to the release speed
   abbrev pub brakingPast : Fraction
-  brakingPast = let o : Overrun = record { weight = t .weight; gradient = w .past; v = kmh 1; tm = tm; tr = tr } in ramp.dp o +q ramp.di k o
+  brakingPast = let o : Overrun = record { weight = t .weight; gradient = w .past; v = kmh 1; tm = tm; tr = tr } in ramp.dp o +q ramp.di (k .inertia) o
 
-  abbrev pub brakingAhead : ℕ → Fraction
-  brakingAhead v0 = dp k t (w .ahead) (kmh v0) (kmh v0) +q di k (w .ahead)
+  abbrev pub brakingAhead : ℕ → ℕ → Fraction
+  brakingAhead release v = dp k t (w .ahead) (kmh v) (kmh release) +q di (k .inertia) (w .ahead)
 
   module _ (release : ℕ) where
     -- a speed's exact P distance, in metres, with V0 the release speed and the gradient ahead
     abbrev pub exactP : ℕ → Fraction
     exactP v = P k t (w .ahead) (kmh v) (kmh release)
 
-    -- every place and every P that is spoken of is a number
+    -- 0.05 m/s² or more ahead at a speed, or less
+    abbrev pub Strong : ℕ → Type 0
+    Strong v = (5 over 100) ≤q brakingAhead release v
+
+    abbrev pub Weak : ℕ → Type 0
+    Weak v = brakingAhead release v <q (5 over 100)
+
+    -- every place and every P that is spoken of is a number; a P is spoken of where the brake is strong enough
     pub record Numbers : Type 0 where
       pub places : (v p q : ℕ) → 0 < q → 0 < place v p q .over
-      pub distances : (v : ℕ) → release ≤ v → 0 < exactP v .over
+      pub distances : (v : ℕ) → release ≤ v → Strong v → 0 < exactP v .over
 
     -- at every whole speed from 1 km/h to the release speed, whatever the moment, the train is not beyond the overlap's end
     abbrev pub Safe : Type 0
@@ -66,19 +73,19 @@ module _ (k : Coefficients) (t : Train) (tm tr : ℕ) (w : Way) where
     -- the brake has 0.05 m/s² or more along an overlap that has a length, where the ramp is consulted, and ahead
     pub record Enough : Type 0 where
       pub past : 0 < w .overlap .0 → (5 over 100) ≤q brakingPast
-      pub ahead : (5 over 100) ≤q brakingAhead release
+      pub ahead : Strong release
 
     -- marked "release", 2, exactly when the release speed's own P is over the distance; the permitted speed is then the release speed.
     -- Otherwise marked "curve", 1: of the speeds from the release speed to the top speed, the permitted speed is the highest up to
-    -- which each has its P within the distance.
+    -- which each is strong enough (Card 5) and has its P within the distance.
     pub record Marked (permitted mark : ℕ) : Type 0 where
       pub either : (mark ≡ 1) ⊎ (mark ≡ 2)
       pub exactly : (mark ≡ 2) ↔ (toSignal <q exactP release)
       pub held : mark ≡ 2 → permitted ≡ release
       pub from : release ≤ permitted
       pub to : permitted ≤ t .top .0
-      pub each : mark ≡ 1 → (v : ℕ) → release ≤ v → v ≤ permitted → exactP v ≤q toSignal
-      pub next : mark ≡ 1 → permitted < t .top .0 → toSignal <q exactP (permitted + 1)
+      pub each : mark ≡ 1 → (v : ℕ) → release ≤ v → v ≤ permitted → Strong v × (exactP v ≤q toSignal)
+      pub next : mark ≡ 1 → permitted < t .top .0 → Weak (permitted + 1) ⊎ (Strong (permitted + 1) × (toSignal <q exactP (permitted + 1)))
 
     pub record Demand (permitted mark : ℕ) : Type 0 where
       pub numbers : Numbers

@@ -1,10 +1,9 @@
 // The approach query: how fast a train may come up to a closed signal, and how fast it may creep past. Document 01, "Approach";
-// document 02, Card 2.
+// document 02, Cards 2 and 5.
 // Takes: `query_way`, `query_release`, `query_permitted`, `ramp` for refusal 6, `ceilings`. Gives: the operation `query`, and the
 // third demand.
 ghost use mathlib.Core.Path.{_≡_};
-ghost use Rattle.train.specs.Coefficients.{first, Within};
-ghost use Rattle.query_permitted.specs.Find.{Steady};
+ghost use Rattle.train.specs.Coefficients.{Within};
 ghost use Rattle.query.specs.Answer.{refused, answered, QueryAnswers};
 ghost use Rattle.query.specs.Begin.{Starts, Fit, FitAhead, answerAt, answerOn};
 use ceilings::Ceiling;
@@ -66,9 +65,17 @@ fn given(release: Kmh, permitted: Kmh, mark: u32) -> Answer
     }
 }
 
-// What stands before every answer: the train, the times, the sheet, the signal and the head.
-fn start(train: Train, tm: u32, tr: u32, s: &[u8], signal: u32, head: Metre) -> Found
-    ensures { λ r. ⌜ Starts train tm tr (now (s .entry)) signal (head .0) r ⌝ }
+// What stands before every answer: the train, the times, the coefficients, the sheet, the signal and the head.
+fn start(
+    k: Coefficients,
+    train: Train,
+    tm: u32,
+    tr: u32,
+    s: &[u8],
+    signal: u32,
+    head: Metre,
+) -> Found
+    ensures { λ r. ⌜ Starts k train tm tr (now (s .entry)) signal (head .0) r ⌝ }
 {
     let bad = train::refusal::of_train(train);
     if bad > 0 {
@@ -77,6 +84,10 @@ fn start(train: Train, tm: u32, tr: u32, s: &[u8], signal: u32, head: Metre) -> 
     let late = ramp::of_times(tm, tr);
     if late > 0 {
         return Found::Refused(late);
+    }
+    let outside = train::refusal::of_coefficients(k);
+    if outside > 0 {
+        return Found::Refused(outside);
     }
     query_way::find(s, signal, head, train.length)
 }
@@ -89,7 +100,7 @@ fn answer_at(
     distance: Metre,
     release: Kmh,
 ) -> Answer
-    requires { ⌜ Within k × Steady k × FitAhead train ahead release ⌝ }
+    requires { ⌜ Within k × FitAhead train ahead release ⌝ }
     ensures { λ r. ⌜ r ≡ answerAt k train ahead distance release ⌝ }
 {
     let permitted = query_permitted::speed(k, train, ahead, release, distance);
@@ -102,9 +113,10 @@ fn answer_at(
 
 // The answer on a way.
 fn answer_on(k: Coefficients, train: Train, tm: u32, tr: u32, w: Way) -> Answer
-    requires { ⌜ Within k × Steady k × Fit train tm tr w ⌝ }
+    requires { ⌜ Fit k train tm tr w ⌝ }
     ensures { λ r. ⌜ r ≡ answerOn k train tm tr w ⌝ }
 {
+    let inertia = k.inertia;
     let top = train.top;
     let ahead = w.ahead;
     let distance = w.distance;
@@ -117,20 +129,29 @@ fn answer_on(k: Coefficients, train: Train, tm: u32, tr: u32, w: Way) -> Answer
         tm: tm,
         tr: tr,
     };
-    let release = query_release::speed(k, o, overlap, top);
+    let release = query_release::speed(inertia, o, overlap, top);
     match release {
         Release::Weak => refused_with(10),
         Release::Speed(v) => answer_at(k, train, ahead, distance, v),
     }
 }
 
-// The query: TM and TR in hundredths of a second, a line sheet, a signal's number from 0, the place of the train's head.
-pub fn query(train: Train, tm: u32, tr: u32, s: &[u8], signal: u32, head: Metre) -> Answer
-    ensures { λ r. ⌜ QueryAnswers first train tm tr (now (s .entry)) signal (head .0) r (now (s .exit)) ⌝ }
+// The query: the train's coefficients, TM and TR in hundredths of a second, a line sheet, a signal's number from 0, the place of
+// the train's head.
+pub fn query(
+    k: Coefficients,
+    train: Train,
+    tm: u32,
+    tr: u32,
+    s: &[u8],
+    signal: u32,
+    head: Metre,
+) -> Answer
+    ensures { λ r. ⌜ QueryAnswers k train tm tr (now (s .entry)) signal (head .0) r (now (s .exit)) ⌝ }
 {
-    let found = start(train, tm, tr, s, signal, head);
+    let found = start(k, train, tm, tr, s, signal, head);
     match found {
         Found::Refused(n) => refused_with(n),
-        Found::Ready(w) => answer_on(train::first_values(), train, tm, tr, w),
+        Found::Ready(w) => answer_on(k, train, tm, tr, w),
     }
 }

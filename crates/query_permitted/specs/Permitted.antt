@@ -1,6 +1,7 @@
--- Document 01, "Approach": the permitted speed, at which a train may come up to the signal, and the mark, which says what holds it.
+-- Document 01, "Approach", with document 02, Card 5: the permitted speed, at which a train may come up to the signal, and the mark, which
+-- says what holds it.
 use mathlib.Core.Path.{_≡_}
-use mathlib.Core.Bool.{Bool, cond}
+use mathlib.Core.Bool.{Bool, _&&_, cond}
 use Prim.Native.Nat.{ℕ, _*_, _-_}
 use lib.Dec.{leb}
 use Rattle.train.specs.declared.Kmh.{Kmh}
@@ -32,8 +33,12 @@ saysOf v0 (Curve v) = (0, v .0, 1)
 -- v0 is the release speed, g the gradient ahead, d the distance to the signal
 module _ (k : Coefficients) (t : Train) (g : Gradient) (v0 : Kmh) (d : Metre) where
   -- the P distance is at most 1,000 × (signal - head)
+  unfoldable pub within : ℕ → Bool
+  within v = leb (distance k t g (kmh v) v0 P .0) (1000 * d .0)
+
+  -- Card 5: a too weak speed does not fit
   unfoldable pub fits : ℕ → Bool
-  fits v = leb (distance k t g (kmh v) v0 P .0) (1000 * d .0)
+  fits v = strong k t g (kmh v) v0 && within v
 
   -- climbing from V0 to the top speed at most; V0 where it does not fit itself
   unfoldable pub permittedOf : ℕ

@@ -7,7 +7,7 @@ use native.Mathlib.Omega.{arith}
 use lib.Dec.{eqb}
 use Rattle.train.specs.declared.Kmh.{Kmh}
 use Rattle.train.specs.declared.Metre.{Metre}
-use Rattle.train.specs.declared.Coefficients.{Coefficients}
+use Rattle.train.specs.declared.Inertia.{Inertia}
 use Rattle.train.specs.Refusal.{firstOf}
 use Rattle.ramp_motion.specs.declared.Overrun.{Overrun}
 use Rattle.ramp_motion.specs.Motion.{dp}
@@ -19,7 +19,7 @@ use Rattle.query_climb.proofs.Climbing.{highest}
 use Rattle.query_release.specs.declared.Release.the-variants.{Weak, Speed}
 use Rattle.query_release.specs.Release.{stopsWithin, releaseOf, weakPast, Releases}
 
-module _ (k : Coefficients) (o : Overrun) where
+module _ (k : Inertia) (o : Overrun) where
   abbrev refusal : ℕ → ℕ
   refusal v = firstOf (rampRefusals k (atSpeed o v))
 
@@ -50,7 +50,7 @@ module _ (k : Coefficients) (o : Overrun) where
       pub strong-past : refusal 1 ≡ 0 → weakPast k o overlap ≡ false
       strong-past z = weak-is ∙ rw (sym (same-strength 1) ∙ is-strong k (atSpeed o 1) z) refl
 
-      module _ (z : firstOf (inputs (atSpeed o 1)) ≡ 0) where
+      module _ (z : firstOf (inputs k (atSpeed o 1)) ≡ 0) where
         pub accepted-past : weakPast k o overlap ≡ false → refusal 1 ≡ 0
         accepted-past e = by-none k (atSpeed o 1) z (same-strength 1 ∙ not-false (strong k o) (sym weak-is ∙ e))
 

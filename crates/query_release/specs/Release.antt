@@ -5,7 +5,7 @@ use Prim.Native.Nat.{ℕ, _*_, min, _≤_}
 use lib.Dec.{leb, ltb, eqb}
 use Rattle.train.specs.declared.Kmh.{Kmh}
 use Rattle.train.specs.declared.Metre.{Metre}
-use Rattle.train.specs.declared.Coefficients.{Coefficients}
+use Rattle.train.specs.declared.Inertia.{Inertia}
 use Rattle.ramp_motion.specs.declared.Overrun.{Overrun}
 use Rattle.ramp.specs.Answer.{atSpeed, strong, distance}
 use Rattle.query_climb.specs.Climb.{climb}
@@ -18,7 +18,7 @@ saysOf Weak = (10, 0)
 saysOf (Speed v) = (0, v .0)
 
 -- o is the motion past the signal, from any speed
-module _ (k : Coefficients) (o : Overrun) (overlap : Metre) where
+module _ (k : Inertia) (o : Overrun) (overlap : Metre) where
   -- the ramp answer does not exceed 1,000 × overlap
   abbrev pub stopsWithin : ℕ → Bool
   stopsWithin v = leb (distance k (atSpeed o v)) (1000 * overlap .0)

@@ -3,7 +3,6 @@
 // Takes: `ramp`, `ramp_motion`, `query_climb`. Gives: `speed`, refusal 10 of the ramp among its answers, to `query`.
 ghost use mathlib.Core.Path.{_≡_};
 ghost use Prim.Native.Nat.{min, _≤_};
-ghost use Rattle.train.specs.Coefficients.{Within};
 ghost use Rattle.train.specs.Refusal.{firstOf};
 ghost use Rattle.ramp_plan.specs.Fair.{Small, Enough};
 ghost use Rattle.ramp.specs.Answer.{atSpeed, inputs};
@@ -14,7 +13,7 @@ ghost use Rattle.query_release.specs.Find.{Each};
 use ramp::Begun;
 use ramp_motion::Overrun;
 use ramp_motion::Plan;
-use train::Coefficients;
+use train::Inertia;
 use train::Kmh;
 use train::Metre;
 
@@ -76,7 +75,7 @@ fn surely_stopping(m: Plan, overlap: Metre, last: Kmh) -> Kmh
     Kmh(low)
 }
 
-// The climb from 1 km/h. The ramp is asked only above the sure speed.
+// The climb from 1 km/h. The train stops from each speed up to the sure one, so the loop, and with it the ramp, begins there.
 fn last_stopping(m: Plan, overlap: Metre, top: Kmh) -> Kmh
     requires { ⌜ Small m × Enough m ⌝ }
     ensures { λ r. ⌜ Each m (λ k o. r .0 ≡ climb (stopsWithin k o overlap) 0 (min 100 (top .0))) ⌝ }
@@ -84,17 +83,14 @@ fn last_stopping(m: Plan, overlap: Metre, top: Kmh) -> Kmh
     let last = highest(top);
     let end = last.0;
     let surely = surely_stopping(m, overlap, last);
-    let sure = surely.0;
-    let mut v: u32 = 0;
+    let mut v = surely.0;
     let best = loop {
         if v >= end {
             break end;
         }
         let next = v + 1;
-        if next > sure {
-            if !stops_within(m, Kmh(next), overlap) {
-                break v;
-            }
+        if !stops_within(m, Kmh(next), overlap) {
+            break v;
         }
         v = next;
     };
@@ -103,8 +99,8 @@ fn last_stopping(m: Plan, overlap: Metre, top: Kmh) -> Kmh
 
 // The release speed. An overlap of no length gives 0, and the ramp is not consulted. Its refusals and its plan but for the
 // speed are the same at every speed.
-pub fn speed(k: Coefficients, o: Overrun, overlap: Metre, top: Kmh) -> Release
-    requires { ⌜ Within k × (firstOf (inputs (atSpeed o 1)) ≡ 0) ⌝ }
+pub fn speed(k: Inertia, o: Overrun, overlap: Metre, top: Kmh) -> Release
+    requires { ⌜ firstOf (inputs k (atSpeed o 1)) ≡ 0 ⌝ }
     ensures { λ r. ⌜ Releases k o overlap top r ⌝ }
 {
     if overlap.0 < 1 {

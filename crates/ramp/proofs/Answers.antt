@@ -4,11 +4,11 @@ use mathlib.Core.Bool.{true, false}
 use mathlib.Core.List.{[]}
 use Prim.Native.Nat.{ℕ, _<_}
 use native.Mathlib.Omega.{arith}
-use borrow.Author.Tests.{ltb-false, ne-eqb}
-use Rattle.train.specs.declared.Coefficients.{Coefficients}
-use Rattle.train.specs.Coefficients.{first}
+use borrow.Author.Tests.{ne-eqb}
+use Rattle.train.specs.declared.Inertia.{Inertia}
+use Rattle.train.specs.Coefficients.{InertiaWithin}
 use Rattle.train.specs.Refusal.{firstOf}
-use Rattle.train.proofs.Refusals.{Rising, rising-before, first-after, first-before, none-holds}
+use Rattle.train.proofs.Refusals.{Rising, rising-before, first-after, first-before}
 use Rattle.train.proofs.Judging.{told}
 use Rattle.train.proofs.Lending.{refused-demand, given-demand}
 use Rattle.ramp_motion.specs.declared.Overrun.{Overrun}
@@ -19,39 +19,29 @@ use Rattle.ramp.specs.Answer.{inputs, strong, weak, rampRefusals, refuse
 use Rattle.ramp.specs.Begin.{IsReady, Stops}
 use Rattle.ramp.proofs.Moment.{moment-is}
 use Rattle.ramp.proofs.Kept.{promised, distance-is}
-use Rattle.ramp.proofs.Judging.{ramp-judges}
+use Rattle.ramp.proofs.Judging.{inputs-judge, ramp-judges}
 use Rattle.ramp.proofs.Faster.{outrun}
 
--- the refusals go by rising numbers, so the lowest that applies is the answer (the train's `lowest` and `applies`)
-pub ramp-rising : (k : Coefficients) (o : Overrun) → Rising 1 (rampRefusals k o)
-ramp-rising k o = (tt, (tt, (tt, (tt, (tt, (tt, (tt, (tt, (tt, (tt, (tt, tt)))))))))))
+-- the refusals go by the one order, so the first that applies is the answer (the train's `soonest` and `applies`)
+pub ramp-rising : (k : Inertia) (o : Overrun) → Rising 1 (rampRefusals k o)
+ramp-rising k o = (tt, (tt, (tt, (tt, (tt, (tt, (tt, (tt, (tt, (tt, (tt, (tt, (tt, (tt, (tt, (tt, (tt, tt)))))))))))))))))
 
-module _ (o : Overrun) where
-  inputs-rising : Rising 1 (inputs o)
-  inputs-rising = rising-before 1 (inputs o) (weak first o) (ramp-rising first o)
+module _ (k : Inertia) (o : Overrun) where
+  inputs-rising : Rising 1 (inputs k o)
+  inputs-rising = rising-before 1 (inputs k o) (weak k o) (ramp-rising k o)
 
-  pub inputs-fit : firstOf (inputs o) ≡ 0 → Fair o
+  -- what the inputs keep where none is turned away
+  pub inputs-fit : firstOf (inputs k o) ≡ 0 → InertiaWithin k × Fair o
   inputs-fit h =
-      let n = none-holds 0 (inputs o) inputs-rising h in
-      let v = n .1 .1 .1 in
-      let g = v .1 .1 in
-      let t = g .1 .1 in
-      record {
-        weight = ltb-false _ _ (n .1 .0);
-        gradient = record { rise = ltb-false _ _ (g .0); fall = ltb-false _ _ (g .1 .0) };
-        v = ltb-false _ _ (v .1 .0);
-        tm = ltb-false _ _ (t .0);
-        some = ltb-false _ _ (t .1 .0);
-        tr = ltb-false _ _ (t .1 .1 .0);
-      }
+      let (w, (v, (g, (t, (i, u))))) = inputs-judge k o .judged .accepted h in
+      (i, record { weight = w .1 .0; gradient = g; v = v .1; tm = t .0; some = t .1 .0; tr = t .1 .1 })
 
-module _ (k : Coefficients) (o : Overrun) where
-  pub by-inputs : (n : ℕ) → 0 < n → n ≡ firstOf (inputs o) → firstOf (rampRefusals k o) ≡ n
-  by-inputs n l e = rw e (first-before (inputs o) (weak k o) (λ z. omega arith))
+  pub by-inputs : (n : ℕ) → 0 < n → n ≡ firstOf (inputs k o) → firstOf (rampRefusals k o) ≡ n
+  by-inputs n l e = rw e (first-before (inputs k o) (weak k o) (λ z. omega arith))
 
-  module _ (z : firstOf (inputs o) ≡ 0) where
+  module _ (z : firstOf (inputs k o) ≡ 0) where
     decides : firstOf (rampRefusals k o) ≡ firstOf (weak k o)
-    decides = first-after 0 (inputs o) (weak k o) (inputs-rising o) z
+    decides = first-after 0 (inputs k o) (weak k o) inputs-rising z
 
     pub by-weakness : strong k o ≡ false → firstOf (rampRefusals k o) ≡ 10
     by-weakness e = decides ∙ rw e refl

@@ -10,7 +10,7 @@ use Rattle.exact.specs.Fraction.{Fraction, signed, _over_, _≤q_}
 use Rattle.exact.proofs.Polynomial.{num, _⊕_, _⊗_}
 use Rattle.exact.proofs.Certificate.{x0, x1, x2, x3, x4, x5, x6, ring, done, times, cert}
 use Rattle.exact.proofs.Substitution.{≈q-refl, ≈q-sym, ≤q-cong, <q-cong}
-use Rattle.train.specs.declared.Coefficients.{Coefficients}
+use Rattle.train.specs.declared.Inertia.{Inertia}
 use Rattle.train.specs.Units.{speed}
 use Rattle.ramp_motion.specs.declared.Overrun.{Overrun}
 use Rattle.ramp_motion.specs.declared.Plan.{Plan}
@@ -46,7 +46,7 @@ module _ (m : Plan) (s : Small m) (t : ℕ) (h : Turns m t) (l : 50000000000 * m
       go (yes i) = i
       go (no i) = absurd (let n : ⊥ = omega (arith, moves, rolls-on m t h 100 (lt-of-not-le i)) in n)
 
-module _ (k : Coefficients) (o : Overrun) (m : Plan) (is : IsPlan k o m) (s : Small m) (t : ℕ) (h : Turns m t) where
+module _ (k : Inertia) (o : Overrun) (m : Plan) (is : IsPlan k o m) (s : Small m) (t : ℕ) (h : Turns m t) where
   start-is : m .start ≡ 50000000000 * o .v .0 * m .tr
   unfolding speed
   start-is =

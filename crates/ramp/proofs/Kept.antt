@@ -12,7 +12,7 @@ use Rattle.exact.proofs.Shape.{shape, wholeE, overE, _+e_, _*e_}
 use Rattle.exact.proofs.Order.{leb-agree}
 use Rattle.exact.proofs.Substitution.{≈q-refl, ≈q-sym, ≈q-trans, becomes, net, +q-cong, *q-cong, ≤q-cong, <q-cong}
 use Rattle.exact.proofs.Raised.{raised-cong, raised-over-le, raised-over-near}
-use Rattle.train.specs.declared.Coefficients.{Coefficients}
+use Rattle.train.specs.declared.Inertia.{Inertia}
 use Rattle.ramp_motion.specs.declared.Overrun.{Overrun}
 use Rattle.ramp_motion.specs.declared.Plan.{Plan}
 use Rattle.ramp_motion.specs.Motion.{di, dp}
@@ -36,7 +36,7 @@ at-most-a-millimetre m t s h =
     (times (num 12 ⊗ x4) x3 (num 96390000) (s .brake) (times (num 6) x2 (num 74163600 ⊗ x4) (s .up) done)))))
     (num 6 ⊗ num 1 ⊗ Fast x0 x1 x5 ⊕ num 3 ⊗ x1 ⊗ num 1 ⊗ num 1) (num 6 ⊗ num 1 ⊗ Slow x2 x3 x5 x6 ⊕ num (108 * 10 ^ 10) ⊗ x4) refl
 
-module _ (k : Coefficients) (o : Overrun) (m : Plan) (is : IsPlan k o m) (s : Small m) where
+module _ (k : Inertia) (o : Overrun) (m : Plan) (is : IsPlan k o m) (s : Small m) where
   sum-is : dp o +q di k o ≈q signed (2 * m .brake * m .tr + m .up) (m .down) (18 * 10 ^ 7 * m .tr)
   sum-is =
       becomes (m .brake ∷ m .up ∷ m .down ∷ m .tr ∷ []) done (overE x0 (9 * 10 ^ 7) +e shape x1 x2 (num (18 * 10 ^ 7) ⊗ x3)) (shape (num 2 ⊗ x0 ⊗ x3 ⊕ x1) x2 (num (18 * 10 ^ 7) ⊗ x3))

@@ -14,7 +14,7 @@ use Rattle.exact.proofs.Certificate.{x0, x1, x2, done}
 use Rattle.exact.proofs.Shape.{shape}
 use Rattle.exact.proofs.Order.{leb-agree}
 use Rattle.exact.proofs.Substitution.{≈q-refl, becomes, ≤q-cong, <q-cong}
-use Rattle.train.specs.declared.Coefficients.{Coefficients}
+use Rattle.train.specs.declared.Inertia.{Inertia}
 use Rattle.ramp_motion.specs.declared.Overrun.{Overrun}
 use Rattle.ramp_motion.specs.declared.Plan.{Plan}
 use Rattle.ramp_motion.specs.Motion.{speedAt, placeAt}
@@ -34,7 +34,7 @@ last-is (suc n) t b l e f = go (decLe n t) (λ h. last-is n t b h e f)
     go (yes h) g = let i : n ≡ t = omega arith in rw (i, e) refl
     go (no h) g = rw (f n (lt-of-not-le h)) (g (lt-of-not-le h))
 
-module _ (k : Coefficients) (o : Overrun) (m : Plan) (is : IsPlan k o m) (l : 0 < m .tr) where
+module _ (k : Inertia) (o : Overrun) (m : Plan) (is : IsPlan k o m) (l : 0 < m .tr) where
   -- at a whole millisecond
   pub place-at : (t : ℕ) → placeAt k o (t over 1000) ≈q signed (gain m t) (loss m t) (108 * 10 ^ 13 * m .tr)
   place-at t =

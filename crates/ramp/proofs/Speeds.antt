@@ -3,7 +3,7 @@ use mathlib.Core.Path.{_≡_, refl, _∙_}
 use Prim.Native.Nat.{ℕ, _+_, _*_, _≤_}
 use native.Mathlib.Omega.{arith}
 use native.Mathlib.Nat.{mul-le-mul-left}
-use Rattle.train.specs.declared.Coefficients.{Coefficients}
+use Rattle.train.specs.declared.Inertia.{Inertia}
 use Rattle.ramp_motion.specs.declared.Overrun.{Overrun}
 use Rattle.ramp_motion.specs.declared.Plan.{Plan}
 use Rattle.ramp_motion.specs.Motion.{dp}
@@ -43,7 +43,7 @@ from-small m v s h =
       };
     }
 
-module _ (k : Coefficients) (o : Overrun) (m : Plan) (is : IsPlan k o m) (s : Small m) where
+module _ (k : Inertia) (o : Overrun) (m : Plan) (is : IsPlan k o m) (s : Small m) where
   pub from-plan : (v : ℕ) → IsPlan k (atSpeed o v) (fromSpeed m v)
   unfolding dp
   from-plan v = record {

@@ -1,4 +1,4 @@
--- Document 01, "Ramp" and "What is turned away", and document 02, Card 13: what the call answers, and what it promises.
+-- Document 01, "Ramp" and "What is turned away", and document 02, Cards 5 and 13: what the call answers, and what it promises.
 use mathlib.Core.Path.{_≡_}
 use mathlib.Core.Bool.{Bool, not, cond}
 use mathlib.Core.List.{List, [], _∷_, _++_}
@@ -7,10 +7,10 @@ use lib.Dec.{ltb, eqb}
 use Rattle.exact.specs.Fraction.{Fraction, whole, _over_, _+q_, _-q_, leq, _≤q_, _<q_}
 use Rattle.train.specs.declared.Kmh.{Kmh}
 use Rattle.train.specs.declared.Gradient.{Gradient}
-use Rattle.train.specs.declared.Coefficients.{Coefficients}
+use Rattle.train.specs.declared.Inertia.{Inertia}
 use Rattle.train.specs.Units.{kmh, inMillimetres}
-use Rattle.train.specs.Refusal.{Refusal, _gives_, firstOf, weightRefusals, gradientRefusals, strongEnough}
-use Rattle.train.specs.Judged.{Rule, _keeps_, Judged, weightRule, gradientRule, brakeRule}
+use Rattle.train.specs.Refusal.{Refusal, _gives_, firstOf, weightRefusals, gradientRefusals, inertiaRefusals, strongEnough}
+use Rattle.train.specs.Judged.{Rule, _keeps_, Judged, weightRule, gradientRule, inertiaRule, brakeRule}
 use Rattle.train.specs.Lent.{NoneLent}
 use Rattle.ramp_motion.specs.declared.Overrun.{Overrun}
 use Rattle.ramp_motion.specs.Motion.{di, dp, speedAt, placeAt}
@@ -33,16 +33,19 @@ abbrev pub timeRefusals : ℕ → ℕ → List Refusal
 timeRefusals tm tr = ltb 2000 tm gives 6 ∷ ltb tr 1 gives 6 ∷ ltb 3000 tr gives 6 ∷ []
 
 -- what the inputs alone turn away
-abbrev pub inputs : Overrun → List Refusal
-inputs o = weightRefusals (o .weight) ++ (speedRefusals (o .v) ++ (gradientRefusals (o .gradient) ++ timeRefusals (o .tm) (o .tr)))
+abbrev pub inputs : Inertia → Overrun → List Refusal
+inputs k o = weightRefusals (o .weight) ++ (speedRefusals (o .v) ++ (gradientRefusals (o .gradient) ++ (timeRefusals (o .tm) (o .tr) ++ inertiaRefusals k)))
 
 -- what is kept, in words of its own: of the times, and of all that the call looks at
 abbrev pub timesRule : ℕ → ℕ → Rule
 timesRule tm tr = 6 keeps ((tm ≤ 2000) × ((1 ≤ tr) × (tr ≤ 3000)))
 
-abbrev pub rampRules : Coefficients → Overrun → List Rule
-rampRules k o =
-    weightRule (o .weight) ∷ 3 keeps ((1 ≤ o .v .0) × (o .v .0 ≤ 100)) ∷ gradientRule (o .gradient) ∷ timesRule (o .tm) (o .tr) ∷ brakeRule (dp o +q di k o) ∷ []
+abbrev pub inputRules : Inertia → Overrun → List Rule
+inputRules k o =
+    weightRule (o .weight) ∷ 3 keeps ((1 ≤ o .v .0) × (o .v .0 ≤ 100)) ∷ gradientRule (o .gradient) ∷ timesRule (o .tm) (o .tr) ∷ inertiaRule k ∷ []
+
+abbrev pub rampRules : Inertia → Overrun → List Rule
+rampRules k o = inputRules k o ++ (brakeRule (dp o +q di k o) ∷ [])
 
 -- the last number below n at which b holds, 0 where it holds at none
 unfoldable pub lastBelow : ℕ → (ℕ → Bool) → ℕ
@@ -57,7 +60,7 @@ refused n = record { refusal = n; distance = record { 0 = 0 }; moment = 0 }
 abbrev pub leeway : ℕ
 leeway = 2
 
-module _ (k : Coefficients) (o : Overrun) where
+module _ (k : Inertia) (o : Overrun) where
   unfoldable pub strong : Bool
   strong = strongEnough (dp o +q di k o)
 
@@ -65,7 +68,7 @@ module _ (k : Coefficients) (o : Overrun) where
   weak = not strong gives 10 ∷ []
 
   abbrev pub rampRefusals : List Refusal
-  rampRefusals = inputs o ++ weak
+  rampRefusals = inputs k o ++ weak
 
   -- the last whole millisecond at which the speed is not below 0; by 2²⁰ ms every accepted train rolls back
   unfoldable pub moment : ℕ

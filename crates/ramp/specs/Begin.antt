@@ -1,7 +1,7 @@
 -- What the code knows before it looks for the stop, and what it finds.
 use mathlib.Core.Path.{_≡_}
 use Prim.Native.Nat.{ℕ, _+_, _*_, _<_}
-use Rattle.train.specs.declared.Coefficients.{Coefficients}
+use Rattle.train.specs.declared.Inertia.{Inertia}
 use Rattle.train.specs.Refusal.{firstOf}
 use Rattle.ramp_motion.specs.declared.Overrun.{Overrun}
 use Rattle.ramp_motion.specs.declared.Plan.{Plan}
@@ -22,7 +22,7 @@ pub record Stops (m : Plan) (r : Stop) : Type 0 where
 abbrev pub fromSpeed : Plan → ℕ → Plan
 fromSpeed m v = from m (50000000000 * v * m .tr)
 
-module _ (k : Coefficients) (o : Overrun) where
+module _ (k : Inertia) (o : Overrun) where
   pub record IsReady (m : Plan) : Type 0 where
     pub accepted : firstOf (rampRefusals k o) ≡ 0
     pub plan : IsPlan k o m

@@ -1,10 +1,9 @@
-// The ramp: how far past a closed signal a train gets that is braked there, and when. Document 01, "Ramp".
+// The ramp: how far past a closed signal a train gets that is braked there, and when. Document 01, "Ramp"; document 02, Card 5.
 // Takes: `train_slope`, `ramp_plan`, `ramp_stop`. Gives: the operation `ramp`; to `query_release` the motion by itself (`start`,
 // `stop_from`), to `query` refusal 6 (`of_times`).
 ghost use mathlib.Core.Path.{_≡_};
 ghost use mathlib.Core.List.{[], _∷_};
 ghost use Prim.Native.Nat.{_≤_};
-ghost use Rattle.train.specs.Coefficients.{first, Within};
 ghost use Rattle.train.specs.Gradient.{gradientOf};
 ghost use Rattle.train.specs.Refusal.{firstOf};
 ghost use Rattle.train.specs.Judged.{Judged};
@@ -13,7 +12,7 @@ ghost use Rattle.ramp_plan.specs.Fair.{Small, Enough};
 ghost use Rattle.ramp.specs.Begin.{Starts, Stops, fromSpeed};
 use ramp_motion::Overrun;
 use ramp_motion::Plan;
-use train::Coefficients;
+use train::Inertia;
 use train::Kmh;
 use train::Millimetre;
 
@@ -48,8 +47,8 @@ pub fn of_times(tm: u32, tr: u32) -> u32
 }
 
 // What the inputs alone turn away, or 0.
-fn turned_away(o: Overrun) -> u32
-    ensures { λ r. ⌜ r ≡ firstOf (inputs o) ⌝ }
+fn turned_away(k: Inertia, o: Overrun) -> u32
+    ensures { λ r. ⌜ r ≡ firstOf (inputs k o) ⌝ }
 {
     let v = o.v;
     let speed = v.0;
@@ -67,15 +66,18 @@ fn turned_away(o: Overrun) -> u32
     if steep > 0 {
         return steep;
     }
-    of_times(o.tm, o.tr)
+    let late = of_times(o.tm, o.tr);
+    if late > 0 {
+        return late;
+    }
+    train::refusal::of_inertia(k)
 }
 
 // What stands before every answer.
-pub fn start(k: Coefficients, o: Overrun) -> Begun
-    requires { ⌜ Within k ⌝ }
+pub fn start(k: Inertia, o: Overrun) -> Begun
     ensures { λ r. ⌜ Starts k o r ⌝ }
 {
-    let bad = turned_away(o);
+    let bad = turned_away(k, o);
     if bad > 0 {
         return Begun::Refused(bad);
     }
@@ -129,21 +131,9 @@ pub fn stop_from(m: Plan, v: Kmh) -> Stop
     })
 }
 
-// The answer with any coefficients of the slope.
-pub fn stop_of(k: Coefficients, o: Overrun) -> Stop
-    requires { ⌜ Within k ⌝ }
-    ensures { λ r. ⌜ RampAnswers k o r ⌝ }
-{
-    let begun = start(k, o);
-    match begun {
-        Begun::Refused(n) => refused_with(n),
-        Begun::Ready(m) => stop_at(m),
-    }
-}
-
-// The answer with the first values; TM and TR in hundredths of a second.
-pub fn ramp(weight: u32, gradient: i32, v: Kmh, tm: u32, tr: u32) -> Stop
-    ensures { λ r. ⌜ RampAnswers first (record { weight = weight; gradient = gradientOf gradient; v = v; tm = tm; tr = tr }) r ⌝ }
+// The answer; TM and TR in hundredths of a second, k the train's coefficients of the slope.
+pub fn ramp(weight: u32, gradient: i32, v: Kmh, tm: u32, tr: u32, k: Inertia) -> Stop
+    ensures { λ r. ⌜ RampAnswers k (record { weight = weight; gradient = gradientOf gradient; v = v; tm = tm; tr = tr }) r ⌝ }
 {
     let o = Overrun {
         weight: weight,
@@ -152,5 +142,9 @@ pub fn ramp(weight: u32, gradient: i32, v: Kmh, tm: u32, tr: u32) -> Stop
         tm: tm,
         tr: tr,
     };
-    stop_of(train::first_values(), o)
+    let begun = start(k, o);
+    match begun {
+        Begun::Refused(n) => refused_with(n),
+        Begun::Ready(m) => stop_at(m),
+    }
 }

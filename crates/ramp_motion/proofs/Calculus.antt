@@ -11,7 +11,7 @@ use Rattle.exact.proofs.Polynomial.{num, _⊕_, _⊗_}
 use Rattle.exact.proofs.Certificate.{x0, x1, x2, x3, x4, x5, x6, x7, x8, x9, done, times, cert}
 use Rattle.exact.proofs.Shape.{shape, _-e_, _*e_}
 use Rattle.exact.proofs.Substitution.{≈q-refl, ≈q-sym, ≈q-trans, becomes, -q-cong, *q-cong, ≤q-cong}
-use Rattle.train.specs.declared.Coefficients.{Coefficients}
+use Rattle.train.specs.declared.Inertia.{Inertia}
 use Rattle.train.specs.Units.{speed}
 use Rattle.ramp_motion.specs.declared.Overrun.{Overrun}
 use Rattle.ramp_motion.specs.declared.Plan.{Plan}
@@ -66,7 +66,7 @@ over-one : (p n p′ n′ d : ℕ) → p + n′ ≤ p′ + n → signed p n d �
 over-one p n p′ n′ d h = let i : (p + n′) * d ≤ (p′ + n) * d = mul-le-mul h (le-refl d) in rw (← add-mul p n′ d, ← add-mul p′ n d) i
 
 -- the motion starts at place 0 with the train's speed
-module _ (k : Coefficients) (o : Overrun) (some : 0 < o .tr) (q : ℕ) (l : 0 < q) where
+module _ (k : Inertia) (o : Overrun) (some : 0 < o .tr) (q : ℕ) (l : 0 < q) where
   abbrev m : Plan
   m = planOf k o
 

@@ -10,7 +10,7 @@ use Rattle.exact.proofs.Polynomial.{Expr, num, _⊕_, _⊗_}
 use Rattle.exact.proofs.Certificate.{x0, x1, x2, x3, x4, x5, x6, x7, done, times, ring}
 use Rattle.exact.proofs.Shape.{Shape, shape, wholeE, overE, _+e_, _-e_, _*e_}
 use Rattle.exact.proofs.Substitution.{≈q-refl, becomes, cond-is, +q-cong, -q-cong, *q-cong, /q-cong, /q-over}
-use Rattle.train.specs.declared.Coefficients.{Coefficients}
+use Rattle.train.specs.declared.Inertia.{Inertia}
 use Rattle.ramp_motion.specs.declared.Overrun.{Overrun}
 use Rattle.ramp_motion.specs.declared.Plan.{Plan}
 use Rattle.ramp_motion.specs.Motion.{dp, TM, TR, u, w, braked, decelerationAt, speedAt, placeAt}
@@ -35,7 +35,7 @@ tens q a n e = rw e (ring (q ∷ n ∷ []) (x0 ⊗ (num 10 ⊗ x1)) (num 10 ⊗ 
 hundreds : (a b q : ℕ) → (a * 100 + b * 100) * q ≡ 100 * (a * q + b * q)
 hundreds a b q = ring (a ∷ b ∷ q ∷ []) ((x0 ⊗ num 100 ⊕ x1 ⊗ num 100) ⊗ x2) (num 100 ⊗ (x0 ⊗ x2 ⊕ x1 ⊗ x2)) refl
 
-module _ (k : Coefficients) (o : Overrun) (m : Plan) (is : IsPlan k o m) (p q : ℕ) (l : 0 < q) (l′ : 0 < m .tr) where
+module _ (k : Inertia) (o : Overrun) (m : Plan) (is : IsPlan k o m) (p q : ℕ) (l : 0 < q) (l′ : 0 < m .tr) where
   -- in ms / q
   abbrev lag : ℕ
   lag = q * m .tm

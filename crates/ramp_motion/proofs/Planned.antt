@@ -9,7 +9,7 @@ use Rattle.exact.proofs.Polynomial.{num, _⊗_}
 use Rattle.exact.proofs.Certificate.{x0, x1, x2, done}
 use Rattle.exact.proofs.Shape.{shape, wholeE, overE, _*e_}
 use Rattle.exact.proofs.Substitution.{≈q-refl, becomes, *q-cong}
-use Rattle.train.specs.declared.Coefficients.{Coefficients}
+use Rattle.train.specs.declared.Inertia.{Inertia}
 use Rattle.train.specs.Units.{speed}
 use Rattle.train_slope.specs.Slope.{factor, dr}
 use Rattle.train_slope.proofs.Decelerations.{di-is, dr-is}
@@ -42,7 +42,7 @@ module _ (o : Overrun) (up7 dn7 dr5 : ℕ) where
         becomes (dr5 ∷ []) done (overE (num 9) 10 *e overE x0 (10 ^ 5)) (overE (num 9 ⊗ (num 90 ⊗ x0)) (9 * 10 ^ 7))
         (*q-cong (≈q-refl {a = 9 over 10} (lit< tt)) e) (lit< tt) refl
 
-    pub is-plan : (k : Coefficients) → di k o ≈q signed up7 dn7 (10 ^ 7) → dr (o .weight) ≈q dr5 over (10 ^ 5) → IsPlan k o planned
+    pub is-plan : (k : Inertia) → di k o ≈q signed up7 dn7 (10 ^ 7) → dr (o .weight) ≈q dr5 over (10 ^ 5) → IsPlan k o planned
     is-plan k e d = record {
       start = start-is;
       slope =
@@ -53,7 +53,7 @@ module _ (o : Overrun) (up7 dn7 dr5 : ℕ) where
       tr = refl;
     }
 
-module _ (k : Coefficients) (o : Overrun) where
+module _ (k : Inertia) (o : Overrun) where
   abbrev pub planOf : Plan
   planOf = planned o (factor k (o .gradient) * 981 * o .gradient .rise) (factor k (o .gradient) * 981 * o .gradient .fall) (685 * o .weight + 9400)
 

@@ -1,7 +1,7 @@
 -- Document 01, "Ramp"; document 000, sections 5.1 and 5.2. Times in s, decelerations in m/s², speeds in m/s, places in m.
 use mathlib.Core.Bool.{cond}
 use Rattle.exact.specs.Fraction.{Fraction, whole, _over_, _+q_, _-q_, _*q_, _/q_, leq}
-use Rattle.train.specs.declared.Coefficients.{Coefficients}
+use Rattle.train.specs.declared.Inertia.{Inertia}
 use Rattle.train.specs.Units.{speed}
 use Rattle.train_slope.specs.Slope as slope
 use Rattle.train_slope.specs.Slope.{dr}
@@ -11,7 +11,7 @@ use Rattle.ramp_motion.specs.declared.Overrun.{Overrun}
 unfoldable pub dp : Overrun → Fraction
 dp o = (9 over 10) *q dr (o .weight)
 
-module _ (k : Coefficients) (o : Overrun) where
+module _ (k : Inertia) (o : Overrun) where
   abbrev pub di : Fraction
   di = slope.di k (o .gradient)
 

@@ -2,13 +2,13 @@
 use mathlib.Core.Path.{_≡_}
 use Prim.Native.Nat.{ℕ, _+_, _*_, _-_, _^_}
 use Rattle.exact.specs.Fraction.{signed, _over_, _≈q_}
-use Rattle.train.specs.declared.Coefficients.{Coefficients}
+use Rattle.train.specs.declared.Inertia.{Inertia}
 use Rattle.train.specs.Units.{speed}
 use Rattle.ramp_motion.specs.declared.Overrun.{Overrun}
 use Rattle.ramp_motion.specs.declared.Plan.{Plan}
 use Rattle.ramp_motion.specs.Motion.{di, dp}
 
-pub record IsPlan (k : Coefficients) (o : Overrun) (m : Plan) : Type 0 where
+pub record IsPlan (k : Inertia) (o : Overrun) (m : Plan) : Type 0 where
   pub start : speed (o .v) ≈q m .start over (18 * 10 ^ 10 * m .tr)
   pub slope : di k o ≈q signed (m .up) (m .down) (18 * 10 ^ 7 * m .tr)
   pub brake : dp o ≈q m .brake over (9 * 10 ^ 7)

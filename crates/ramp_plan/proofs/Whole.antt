@@ -6,8 +6,8 @@ use native.Mathlib.Omega.{arith}
 use native.Mathlib.Nat.{le-refl, mul-le-mul}
 use Rattle.exact.proofs.Polynomial.{num, _⊗_}
 use Rattle.exact.proofs.Certificate.{x0, x1, ring}
-use Rattle.train.specs.declared.Coefficients.{Coefficients}
-use Rattle.train.specs.Coefficients.{Within}
+use Rattle.train.specs.declared.Inertia.{Inertia}
+use Rattle.train.specs.Coefficients.{InertiaWithin}
 use Rattle.train_slope.proofs.Factors.{factor-small}
 use Rattle.train_slope.proofs.Decelerations.{slope-small}
 use Rattle.ramp_motion.specs.declared.Overrun.{Overrun}
@@ -42,7 +42,7 @@ is-small o up7 dn7 dr5 f u n d =
       };
     }
 
-pub planOf-small : (k : Coefficients) (o : Overrun) → Within k → Fair o → Small (planOf k o)
+pub planOf-small : (k : Inertia) (o : Overrun) → InertiaWithin k → Fair o → Small (planOf k o)
 planOf-small k o w f =
     let i = factor-small k (o .gradient) w in
     let g = f .gradient in

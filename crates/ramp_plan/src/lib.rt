@@ -3,16 +3,16 @@
 ghost use mathlib.Core.Path.{_≡_};
 ghost use Prim.Native.Nat.{_+_, _*_};
 ghost use lib.Dec.{leb};
-ghost use Rattle.train.specs.Coefficients.{Within};
+ghost use Rattle.train.specs.Coefficients.{InertiaWithin};
 ghost use Rattle.ramp_motion.specs.Plan.{IsPlan};
 ghost use Rattle.ramp_plan.specs.Fair.{Fair, Small};
 use ramp_motion::Overrun;
 use ramp_motion::Plan;
-use train::Coefficients;
+use train::Inertia;
 
 // The plan of an overrun.
-pub fn plan_of(k: Coefficients, o: Overrun) -> Plan
-    requires { ⌜ Within k × Fair o ⌝ }
+pub fn plan_of(k: Inertia, o: Overrun) -> Plan
+    requires { ⌜ InertiaWithin k × Fair o ⌝ }
     ensures { λ r. ⌜ IsPlan k o r × Small r ⌝ }
 {
     let v = o.v;

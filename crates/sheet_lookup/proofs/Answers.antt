@@ -10,7 +10,7 @@ use Rattle.lists.proofs.Split.{below}
 use Rattle.train.specs.Units.{metres}
 use Rattle.train.specs.Refusal.{firstOf}
 use Rattle.train.specs.Judged.{_keeps_, Judged}
-use Rattle.train.proofs.Refusals.{none-holds}
+use Rattle.train.proofs.Refusals.{Rising, none-holds}
 use Rattle.train.proofs.Judging.{below as under, no-more, _then_, told}
 use Rattle.train.proofs.Lending.{refused-demand, given-demand}
 use Rattle.sheet.specs.Sheet.{lineOf}
@@ -23,13 +23,17 @@ use Rattle.sheet_lookup.specs.declared.Stretch.{Stretch}
 use Rattle.sheet_lookup.specs.declared.Signal.{Signal}
 use Rattle.sheet_lookup.specs.Answer.{readRefusals, stretchOf, signalOf, StretchAnswers, SignalAnswers}
 
+-- the refusals go by the one order, so the first that applies is the answer (the train's `soonest` and `applies`)
+pub read-rising : (s : List ℕ) (count k : ℕ) → Rising 1 (readRefusals s count k)
+read-rising s count k = (tt, (tt, tt))
+
 module _ (s : List ℕ) (k : ℕ) where
   -- a list is as long as the count that the number is held to
   spans : (n count r : ℕ) → n ≡ count → r ≡ firstOf (readRefusals s count k) → Judged (sheetRule s ∷ 8 keeps (k < n) ∷ []) r
   spans n count r e i = rw e (told (sheet-settles s then under 8 tt k count then no-more) i .1)
 
   number : (count : ℕ) → firstOf (readRefusals s count k) ≡ 0 → k < count
-  number count z = let (a, (b, _)) = none-holds 6 (readRefusals s count k) (tt, (tt, tt)) z in leb-false _ _ b
+  number count z = let (a, (b, _)) = none-holds 0 (readRefusals s count k) (read-rising s count k) z in leb-false _ _ b
 
   -- of a stretch, without a refusal and with one
   abbrev first-of-stretch : ℕ

@@ -36,5 +36,5 @@ module _ (s : List ℕ) (k : ℕ) where
   unfolding signalOf
   read-signal e =
       let z : first ≡ 0 = sym read-refusal ∙ e in
-      let (a, (b, _)) = none-holds 6 (readRefusals s (lineOf s .signals) k) (tt, (tt, tt)) z in
+      let (a, (b, _)) = none-holds 0 (readRefusals s (lineOf s .signals) k) (tt, (tt, tt)) z in
       record { sheet = not-false _ a; number = leb-false _ _ b; place = rw z refl; overlap = rw z refl }

@@ -10,6 +10,7 @@ use lib.Seq.{take-at, drop-at}
 use Rattle.train.specs.Judged.{_keeps_, Judged}
 use Rattle.train.specs.Lent.{FirstDemand}
 use Rattle.train.specs.Refusal.{firstOf}
+use Rattle.train.proofs.Refusals.{Rising}
 use Rattle.train.proofs.Judging.{at-least, no-more, _then_, told}
 use Rattle.train.proofs.Lending.{refused-demand}
 use Rattle.lists.specs.Put.{put}
@@ -23,6 +24,10 @@ use Rattle.sheet_writer.specs.Answer.{size, writeRefusals, writeOf, buff
 
 never : {A : Type 0} (n : ℕ) → suc n ≡ 0 → A
 never n e = absurd (let z : suc n ≡ 0 = e in omega arith)
+
+-- the refusals go by the one order, so the first that applies is the answer (the train's `soonest` and `applies`)
+pub write-rising : (f : Fields) (room : ℕ) → Rising 1 (writeRefusals f room)
+write-rising f room = (tt, (tt, tt))
 
 module _ (f : Fields) (lent : List ℕ) where
   -- the refusals by the rules

@@ -1,4 +1,4 @@
--- Document 01, "Step distances" and "What is turned away": what a single distance answers.
+-- Document 01, "Step distances" and "What is turned away", and document 02, Card 5: what a single distance answers.
 use mathlib.Core.Path.{_≡_}
 use mathlib.Core.Bool.{not, cond}
 use mathlib.Core.List.{List, [], _∷_, _++_}
@@ -9,8 +9,8 @@ use Rattle.train.specs.declared.Kmh.{Kmh}
 use Rattle.train.specs.declared.Train.{Train}
 use Rattle.train.specs.declared.Gradient.{Gradient}
 use Rattle.train.specs.declared.Coefficients.{Coefficients}
-use Rattle.train.specs.Refusal.{Refusal, _gives_, firstOf, trainRefusals, gradientRefusals}
-use Rattle.train.specs.Judged.{Rule, _keeps_, Judged, weightRule, lengthRule, TopSpeed, gradientRule, brakeRule}
+use Rattle.train.specs.Refusal.{Refusal, _gives_, firstOf, trainRefusals, gradientRefusals, coefficientRefusals}
+use Rattle.train.specs.Judged.{Rule, _keeps_, Judged, weightRule, lengthRule, TopSpeed, gradientRule, coefficientRule, brakeRule}
 use Rattle.train.specs.Lent.{NoneLent}
 use Rattle.train_slope.specs.Slope.{di}
 use Rattle.step_curve.specs.declared.Curve.the-variants.{Ebi, Sbi, W, P}
@@ -24,17 +24,18 @@ abbrev pub speedRefusals : Kmh → Kmh → List Refusal
 speedRefusals v v0 = ltb 330 (v .0) gives 3 ∷ ltb 330 (v0 .0) gives 3 ∷ ltb (v .0) (v0 .0) gives 4 ∷ []
 
 -- what the inputs alone turn away
-abbrev pub inputs : Train → Gradient → Kmh → Kmh → List Refusal
-inputs t g v v0 = trainRefusals t ++ (speedRefusals v v0 ++ gradientRefusals g)
+abbrev pub inputs : Coefficients → Train → Gradient → Kmh → Kmh → List Refusal
+inputs k t g v v0 = trainRefusals t ++ (speedRefusals v v0 ++ (gradientRefusals g ++ coefficientRefusals k))
 
 -- the same in words of its own
-abbrev pub inputRules : Train → Gradient → Kmh → Kmh → List Rule
-inputRules t g v v0 =
+abbrev pub inputRules : Coefficients → Train → Gradient → Kmh → Kmh → List Rule
+inputRules k t g v v0 =
     weightRule (t .weight)
     ∷ lengthRule t
     ∷ 3 keeps (TopSpeed t × ((v .0 ≤ 330) × (v0 .0 ≤ 330)))
     ∷ 4 keeps (v0 .0 ≤ v .0)
     ∷ gradientRule g
+    ∷ coefficientRule k
     ∷ []
 
 -- a refusal, with zeros
@@ -48,11 +49,11 @@ module _ (k : Coefficients) (t : Train) (g : Gradient) where
 
   -- a single distance
   abbrev pub stepRefusals : Kmh → Kmh → List Refusal
-  stepRefusals v v0 = inputs t g v v0 ++ weak v v0
+  stepRefusals v v0 = inputs k t g v v0 ++ weak v v0
 
   -- in words of its own; 10 goes by dp + di itself
   abbrev pub stepRules : Kmh → Kmh → List Rule
-  stepRules v v0 = inputRules t g v v0 ++ (brakeRule (dp k t g v v0 +q di k g) ∷ [])
+  stepRules v v0 = inputRules k t g v v0 ++ (brakeRule (dp k t g v v0 +q di (k .inertia) g) ∷ [])
 
   abbrev pub distances : Kmh → Kmh → Distances
   distances v v0 =

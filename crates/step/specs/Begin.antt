@@ -5,7 +5,7 @@ use Prim.Native.Nat.{ℕ, _<_}
 use Rattle.train.specs.declared.Kmh.{Kmh}
 use Rattle.train.specs.declared.Train.{Train}
 use Rattle.train.specs.declared.Gradient.{Gradient}
-use Rattle.train.specs.Coefficients.{first}
+use Rattle.train.specs.declared.Coefficients.{Coefficients}
 use Rattle.train.specs.Refusal.{firstOf}
 use Rattle.step_braking.specs.declared.Course.{Course}
 use Rattle.step_curve.specs.declared.Curve.the-variants.{Ebi, Sbi, W, P}
@@ -18,14 +18,14 @@ use Rattle.step.specs.declared.Begun.the-variants.{Refused, Ready}
 use Rattle.step.specs.Answer.{inputs, weak}
 
 -- the refusals up to 10, the strength taken at `at`
-module _ (t : Train) (g : Gradient) (v v0 at : Kmh) where
+module _ (k : Coefficients) (t : Train) (g : Gradient) (v v0 at : Kmh) where
   abbrev pub refusal : ℕ
-  refusal = firstOf (inputs t g v v0 ++ weak first t g at v0)
+  refusal = firstOf (inputs k t g v v0 ++ weak k t g at v0)
 
   pub record IsReady (c : Course) : Type 0 where
     pub accepted : refusal ≡ 0
     pub speeds : Near (v .0) (v0 .0)
-    pub course : IsCourse first t g c
+    pub course : IsCourse k t g c
     pub enough : Enough c (at .0) (v0 .0)
 
   abbrev pub Starts : Begun → Type 0

@@ -1,9 +1,8 @@
-// The step model: single distances, with document 002's first values. Document 01, "Step distances".
+// The step model: single distances. Document 01, "Step distances"; document 02, Card 5.
 // Takes: `train_slope`, `step_course`, `step_braking`, `step_quick`. Gives: the operation `step`; to `step_row` a refusal or a
 // course (`start`).
 ghost use mathlib.Core.Path.{_≡_};
 ghost use Prim.Native.Nat.{_≤_};
-ghost use Rattle.train.specs.Coefficients.{first};
 ghost use Rattle.train.specs.Gradient.{gradientOf};
 ghost use Rattle.train.specs.Refusal.{firstOf};
 ghost use Rattle.step_braking.specs.Plan.{Small, Near, Enough};
@@ -11,6 +10,7 @@ ghost use Rattle.step.specs.Answer.{inputs, refused, StepAnswers};
 ghost use Rattle.step.specs.Begin.{Starts, placesOf};
 use step_braking::Course;
 use step_curve::Curve;
+use train::Coefficients;
 use train::Gradient;
 use train::Kmh;
 use train::Millimetre;
@@ -33,8 +33,8 @@ pub enum Begun {
 }
 
 // What the inputs alone turn away, or 0.
-fn turned_away(train: Train, v: Kmh, v0: Kmh, g: Gradient) -> u32
-    ensures { λ r. ⌜ r ≡ firstOf (inputs train g v v0) ⌝ }
+fn turned_away(k: Coefficients, train: Train, v: Kmh, v0: Kmh, g: Gradient) -> u32
+    ensures { λ r. ⌜ r ≡ firstOf (inputs k train g v v0) ⌝ }
 {
     let bad = train::refusal::of_train(train);
     if bad > 0 {
@@ -51,20 +51,24 @@ fn turned_away(train: Train, v: Kmh, v0: Kmh, g: Gradient) -> u32
     if slow > fast {
         return 4;
     }
-    train::refusal::of_gradient(g)
+    let steep = train::refusal::of_gradient(g);
+    if steep > 0 {
+        return steep;
+    }
+    train::refusal::of_coefficients(k)
 }
 
 // What stands before every distance. The train is to be strong enough at the speed `at`, which lies between v0 and v.
-pub fn start(train: Train, v: Kmh, v0: Kmh, at: Kmh, gradient: i32) -> Begun
+pub fn start(k: Coefficients, train: Train, v: Kmh, v0: Kmh, at: Kmh, gradient: i32) -> Begun
     requires { ⌜ (v0 .0 ≤ v .0 → (v0 .0 ≤ at .0) × (at .0 ≤ v .0)) ⌝ }
-    ensures { λ r. ⌜ Starts train (gradientOf gradient) v v0 at r ⌝ }
+    ensures { λ r. ⌜ Starts k train (gradientOf gradient) v v0 at r ⌝ }
 {
     let g = train_slope::gradient_of(gradient);
-    let bad = turned_away(train, v, v0, g);
+    let bad = turned_away(k, train, v, v0, g);
     if bad > 0 {
         return Begun::Refused(bad);
     }
-    let c = step_course::course_of(train::first_values(), train, g);
+    let c = step_course::course_of(k, train, g);
     if !step_braking::strength::is_strong(c, at, v0) {
         return Begun::Refused(10);
     }
@@ -89,7 +93,7 @@ fn distances_at(c: Course, v: Kmh, v0: Kmh) -> Distances
     requires { ⌜ Small c × Near (v .0) (v0 .0) × Enough c (v .0) (v0 .0) ⌝ }
     ensures { λ r. ⌜ r ≡ placesOf c v v0 ⌝ }
 {
-    let b = step_quick::bounds_at(c, v, v, v0);
+    let b = step_quick::bounds_at(c, v, v0);
     Distances {
         refusal: 0,
         ebi: step_quick::distance(Curve::Ebi, c, v, v0, b),
@@ -99,11 +103,11 @@ fn distances_at(c: Course, v: Kmh, v0: Kmh) -> Distances
     }
 }
 
-// The four distances from v to the target v0.
-pub fn step(train: Train, v: Kmh, v0: Kmh, gradient: i32) -> Distances
-    ensures { λ r. ⌜ StepAnswers first train (gradientOf gradient) v v0 r ⌝ }
+// The four distances from v to the target v0, with the train's coefficients k.
+pub fn step(k: Coefficients, train: Train, v: Kmh, v0: Kmh, gradient: i32) -> Distances
+    ensures { λ r. ⌜ StepAnswers k train (gradientOf gradient) v v0 r ⌝ }
 {
-    let begun = start(train, v, v0, v, gradient);
+    let begun = start(k, train, v, v0, v, gradient);
     match begun {
         Begun::Refused(n) => refused_with(n),
         Begun::Ready(c) => distances_at(c, v, v0),

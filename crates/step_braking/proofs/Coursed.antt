@@ -34,7 +34,7 @@ module _ (k : Coefficients) (t : Train) (g : Gradient) (w : Within k) where
           vc = k .vc;
         }
 
-    pub is-course : (d over 1000000 ≈q delay t) × (d ≤ 18500000) → (di k g ≈q signed up7 dn7 (10 ^ 7)) × (up7 ≤ 4120200) × (dn7 ≤ 4120200) → (dr (t .weight) ≈q dr5 over (10 ^ 5)) × (dr5 ≤ 119000) → IsCourse k t g coursed
+    pub is-course : (d over 1000000 ≈q delay t) × (d ≤ 18500000) → (di (k .inertia) g ≈q signed up7 dn7 (10 ^ 7)) × (up7 ≤ 4120200) × (dn7 ≤ 4120200) → (dr (t .weight) ≈q dr5 over (10 ^ 5)) × (dr5 ≤ 119000) → IsCourse k t g coursed
     is-course e p n =
         let late = delay-small _ _ (w .dt) (e .1) in
         record {
@@ -61,5 +61,5 @@ module _ (k : Coefficients) (t : Train) (g : Gradient) (w : Within k) where
   pub course : t .weight ≤ 160 → t .length .0 ≤ 1000 → Moderate g → (c : Course) × IsCourse k t g c
   course heavy long m =
       let (d, e) = whole-delay t long in
-      let f = factor-small k g w in
-      (coursed d (factor k g * 981 * g .rise) (factor k g * 981 * g .fall) (685 * t .weight + 9400), is-course d _ _ _ e (di-is k g, slope-small _ _ f (m .rise), slope-small _ _ f (m .fall)) (dr-is (t .weight), omega arith))
+      let f = factor-small (k .inertia) g (w .inertia) in
+      (coursed d (factor (k .inertia) g * 981 * g .rise) (factor (k .inertia) g * 981 * g .fall) (685 * t .weight + 9400), is-course d _ _ _ e (di-is (k .inertia) g, slope-small _ _ f (m .rise), slope-small _ _ f (m .fall)) (dr-is (t .weight), omega arith))

@@ -77,7 +77,7 @@ module _ (k : Coefficients) (t : Train) (g : Gradient) (c : Course) (is : IsCour
   s = sOf (v .0)
 
   -- dp + di
-  pub A-is : dp k t g v v0 +q di k g ≈q signed gain loss (10 ^ 12 * s)
+  pub A-is : dp k t g v v0 +q di (k .inertia) g ≈q signed gain loss (10 ^ 12 * s)
   unfolding dp gainOf lossOf brakeOf
   A-is =
       becomes (c .power ∷ (100 * s - c .cr * v0 .0) ∷ (1000 + c .plus * (v .0 - c .vc .0)) ∷ (c .minus * (v .0 - c .vc .0)) ∷ c .up7 ∷ c .dn7 ∷ s ∷ []) done
@@ -89,10 +89,10 @@ module _ (k : Coefficients) (t : Train) (g : Gradient) (c : Course) (is : IsCour
       part = le-trans (rw (is .cr) at (is .small .cr)) (lit≤ tt)
 
   -- the test of refusal 10
-  enough : Enough c (v .0) (v0 .0) → (5 over 100) ≤q dp k t g v v0 +q di k g
+  enough : Enough c (v .0) (v0 .0) → (5 over 100) ≤q dp k t g v v0 +q di (k .inertia) g
   enough h = ≤q-cong (≈q-refl {a = 5 over 100} (lit< tt)) (≈q-sym A-is) (omega arith)
 
-  weak : gain < loss + 50000000000 * s → dp k t g v v0 +q di k g <q (5 over 100)
+  weak : gain < loss + 50000000000 * s → dp k t g v v0 +q di (k .inertia) g <q (5 over 100)
   weak h = <q-cong (≈q-sym A-is) (≈q-refl {a = 5 over 100} (lit< tt)) (omega arith)
 
   pub strong-is : strongOf c (v .0) (v0 .0) ≡ strong k t g v v0

@@ -1,6 +1,6 @@
 pub mod Exact
 pub mod Bounds
 pub mod Steady
-pub mod Rising
-pub mod Stronger
+pub mod Ends
+pub mod Weakest
 pub mod Coursed

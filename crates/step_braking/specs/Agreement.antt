@@ -14,7 +14,7 @@ use Rattle.step_braking.specs.Plan.{Small}
 pub record IsCourse (k : Coefficients) (t : Train) (g : Gradient) (c : Course) : Type 0 where
   pub T : T k t ≈q c .t8 over (10 ^ 8)
   pub R : tR +q tf k t ≈q c .r8 over (10 ^ 8)
-  pub di : di k g ≈q signed (c .up7) (c .dn7) (10 ^ 7)
+  pub di : di (k .inertia) g ≈q signed (c .up7) (c .dn7) (10 ^ 7)
   pub power : (k .kr over 100) *q dr (t .weight) ≈q c .power over (10 ^ 7)
   pub cr : c .cr ≡ k .cr
   pub plus : c .plus ≡ k .nc .plus

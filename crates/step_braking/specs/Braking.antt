@@ -1,4 +1,5 @@
--- Document 01, "Step distances"; document 002, sections 7 to 7.4, and 8.1 for tR, as they are printed. Times in s, speeds in m/s.
+-- Document 01, "Step distances"; document 002, sections 7 to 7.4, and 8.1 for tR, as they are printed, with the train's own
+-- coefficients (document 02, Card 5). Times in s, speeds in m/s.
 use mathlib.Core.Bool.{Bool, cond}
 use lib.Dec.{leb, eqb}
 use Rattle.exact.specs.Fraction.{Fraction, whole, signed, _over_, _+q_, _-q_, _*q_, maxq}
@@ -34,7 +35,7 @@ module _ (k : Coefficients) (t : Train) (g : Gradient) (v v0 : Kmh) where
 
   -- section 7.4
   unfoldable pub Vβ : Fraction
-  Vβ = maxq (speed v -q di k g *q T k t) (speed v0)
+  Vβ = maxq (speed v -q di (k .inertia) g *q T k t) (speed v0)
 
   unfoldable pub strong : Bool
-  strong = strongEnough (dp +q di k g)
+  strong = strongEnough (dp +q di (k .inertia) g)

@@ -1,6 +1,6 @@
 -- The whole numbers that the code works with: how strongly the train brakes, and the speed that is left when it begins to.
 use mathlib.Core.Bool.{Bool}
-use Prim.Native.Nat.{ℕ, _+_, _*_, _-_, _^_, _≤_, max}
+use Prim.Native.Nat.{ℕ, _+_, _*_, _-_, _^_, _≤_, _<_, max}
 use lib.Dec.{leb}
 use Rattle.step_braking.specs.declared.Course.{Course}
 
@@ -11,6 +11,16 @@ v9 v = v * (25 * 10 ^ 14)
 -- V, and 1 at standstill: what V0 is over
 unfoldable pub sOf : ℕ → ℕ
 sOf v = max v 1
+
+-- the most that the deceleration, Vβ and V come to
+abbrev pub aMost : ℕ
+aMost = 2668881600000000
+
+abbrev pub betaMost : ℕ
+betaMost = 980743560000000000
+
+abbrev pub speedMost : ℕ
+speedMost = 825000000000000000
 
 module _ (c : Course) where
   -- Vβ, as fine as v9
@@ -35,6 +45,14 @@ module _ (c : Course) where
   abbrev pub strongOf : ℕ → ℕ → Bool
   strongOf v v0 = leb (lossOf v v0 + 50000000000 * sOf v) (gainOf v v0)
 
+-- (g - l) / s is what the train brakes by at the least, from one speed to another, where it is enough
+pub record Weakest (c : Course) (from to v0 s g l : ℕ) : Type 0 where
+  pub some : 0 < s
+  pub unit : s ≤ 330
+  pub gain : g ≤ aMost
+  pub loss : l ≤ aMost
+  pub each : l + 50000000000 * s ≤ g → (v : ℕ) → from ≤ v → v ≤ to → Enough c v v0 × ((g - l) * sOf v ≤ (gainOf c v v0 - lossOf c v v0) * s)
+
 -- what is accepted makes numbers no larger than these
 pub record Small (c : Course) : Type 0 where
   pub t8 : c .t8 ≤ 4200000000
@@ -49,13 +67,3 @@ pub record Small (c : Course) : Type 0 where
 pub record Near (v v0 : ℕ) : Type 0 where
   pub high : v ≤ 330
   pub ahead : v0 ≤ v
-
--- the most that the deceleration, Vβ and V come to
-abbrev pub aMost : ℕ
-aMost = 2668881600000000
-
-abbrev pub betaMost : ℕ
-betaMost = 980743560000000000
-
-abbrev pub speedMost : ℕ
-speedMost = 825000000000000000

@@ -1,7 +1,7 @@
 // How strongly the train brakes, and the speed that is left when it begins to.
 ghost use mathlib.Core.Path.{_≡_};
 ghost use Prim.Native.Nat.{_-_, _≤_};
-ghost use Rattle.step_braking.specs.Plan.{v9, sOf, gainOf, lossOf, strongOf, betaOf, Small, Near};
+ghost use Rattle.step_braking.specs.Plan.{v9, sOf, gainOf, lossOf, strongOf, betaOf, Small, Near, Weakest};
 use super::Course;
 use train::Kmh;
 
@@ -46,6 +46,26 @@ pub fn at(c: Course, v: Kmh, v0: Kmh) -> Strength
         unit: unit,
         gain: gain,
         loss: loss,
+    }
+}
+
+// The strength at the one of two speeds at which the train brakes the weaker: at no speed between them does it brake weaker.
+pub fn weakest(c: Course, from: Kmh, to: Kmh, v0: Kmh) -> Strength
+    requires { ⌜ Small c × Near (from .0) (v0 .0) × Near (to .0) (v0 .0) × (from .0 ≤ to .0) ⌝ }
+    ensures { λ r. ⌜ Weakest c (from .0) (to .0) (v0 .0) (r .unit) (r .gain) (r .loss) ⌝ }
+{
+    let first = at(c, from, v0);
+    // Where nC is not below 0, it is the lower.
+    if c.minus < 1 {
+        return first;
+    }
+    let last = at(c, to, v0);
+    if first.gain * last.unit + last.loss * first.unit
+        <= last.gain * first.unit + first.loss * last.unit
+    {
+        first
+    } else {
+        last
     }
 }
 

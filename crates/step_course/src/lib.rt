@@ -16,10 +16,11 @@ pub fn course_of(k: Coefficients, train: Train, g: Gradient) -> Course
 {
     let nc = k.nc;
     let vc = k.vc;
+    let inertia = k.inertia;
     let tf8 = k.dt as u64 * train_delay::of_train(train) as u64;
     let t8 = k.h as u64 * 10000000 + tf8;
     let r8 = 100000000 + tf8;
-    let pull = train_slope::pull_of(k, g);
+    let pull = train_slope::pull_of(inertia, g);
     let power = k.kr as u64 * train_slope::nominal(train.weight);
     let cr = k.cr as u64;
     let plus = nc.plus as u64;

@@ -56,7 +56,7 @@ module _ (k : Coefficients) (t : Train) (g : Gradient) (c : Course) (is : IsCour
     unfolding aOf
     a-pos = let p = s-pos (v .0) in omega arith
 
-    2A-is : whole 2 *q (dp k t g v v0 +q di k g) ≈q (2 * a) over (10 ^ 12 * s)
+    2A-is : whole 2 *q (dp k t g v v0 +q di (k .inertia) g) ≈q (2 * a) over (10 ^ 12 * s)
     unfolding aOf
     2A-is =
         becomes (a ∷ s ∷ []) done (wholeE (num 2) *e shape x0 (num 0) (num (10 ^ 12) ⊗ x1)) (shape (num 2 ⊗ x0) (num 0) (num (10 ^ 12) ⊗ x1))

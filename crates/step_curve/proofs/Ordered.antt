@@ -37,7 +37,7 @@ module _ (k : Coefficients) (t : Train) (g : Gradient) (v v0 : Kmh) where
 
   pub target-β : speed v0 ≤q β
   unfolding Vβ
-  target-β = maxq-right (speed v -q di k g *q T k t) (speed v0)
+  target-β = maxq-right (speed v -q di (k .inertia) g *q T k t) (speed v0)
 
   pub β-from-0 : whole 0 ≤q β
   β-from-0 = ≤q-trans (whole 0) (speed v0) β (speed-number v0) (speed-from-0 v0) target-β

@@ -83,7 +83,7 @@ module _ (k : Coefficients) (t : Train) (g : Gradient) (v v0 : Kmh) where
   ebi-from-0 =
       let s = squares (speed v0) β (speed-from-0 v0) (β-from-0 k t g v v0) (target-β k t g v v0) in
       let lost = β *q β -q speed v0 *q speed v0 in
-      let by = whole 2 *q (dp k t g v v0 +q di k g) in
+      let by = whole 2 *q (dp k t g v v0 +q di (k .inertia) g) in
       +q-from-0 (T k t *q β) (lost /q by) (*q-from-0 (T k t) β T-from-0 (β-from-0 k t g v v0)) (/q-from-0 lost by (-q-from-0 (speed v0 *q speed v0) (β *q β) s))
 
   sbi-from-0 : whole 0 ≤q SBI k t g v v0

@@ -25,7 +25,7 @@ module _ (k : Coefficients) (t : Train) (g : Gradient) (v v0 : Kmh) where
   Vβ = braking.Vβ k t g v v0
 
   unfoldable pub EBI : Fraction
-  EBI = T k t *q Vβ +q (Vβ *q Vβ -q speed v0 *q speed v0) /q (whole 2 *q (dp k t g v v0 +q di k g))
+  EBI = T k t *q Vβ +q (Vβ *q Vβ -q speed v0 *q speed v0) /q (whole 2 *q (dp k t g v v0 +q di (k .inertia) g))
 
   unfoldable pub SBI : Fraction
   SBI = EBI +q (tR +q tf k t) *q Vβ

@@ -1,4 +1,4 @@
--- Where a distance with the deceleration of one speed and the speeds of another fits, so does that of each speed between them.
+-- Where a distance with the weakest deceleration and the speeds of the last fits, so does that of each speed before it.
 use mathlib.Core.Path.{_≡_, refl, sym}
 use mathlib.Core.List.{[], _∷_}
 use Prim.Native.Nat.{ℕ, _+_, _*_, _^_, _≤_, _<_}
@@ -7,13 +7,11 @@ use native.Mathlib.Nat.{mul-le-mul, add-le-add, le-refl, le-of-eq, le-dest, le-o
 use Rattle.exact.proofs.Polynomial.{num, _⊕_, _⊗_}
 use Rattle.exact.proofs.Certificate.{x0, x1, x2, x3, x4, x5, x6, x7, done, times, cert}
 use Rattle.step_braking.specs.declared.Course.{Course}
-use Rattle.step_braking.specs.Plan.{v9, sOf, betaOf, Near}
-use Rattle.step_braking.proofs.Bounds.{s-small}
+use Rattle.step_braking.specs.Plan.{v9, sOf, betaOf}
 use Rattle.step_curve.specs.declared.Curve.the-variants.{P}
 use Rattle.step_curve.specs.Plan.{squareOf, runOf, aOf, sumAt}
-use Rattle.step_quick.specs.Bounds.{NoWeaker}
 
--- A and s at the first speed, M and D at the last; A′, s′, M′ and D′ at one between them
+-- A over s the weakest, M and D at the last speed; A′, s′, M′ and D′ at one before it
 module _ (A s M D A′ s′ M′ D′ n : ℕ) (p : 0 < A) (q : 0 < s) (stronger : A * s′ ≤ A′ * s) (run : M′ ≤ M) (square : D′ ≤ D) where
   between : 9 * A * M + 50000 * s * D ≤ n * (81 * 10 ^ 20 * A) → 9 * A′ * M′ + 50000 * s′ * D′ ≤ 81 * 10 ^ 20 * A′ * n
   between h =
@@ -42,7 +40,7 @@ module _ (A s M D A′ s′ M′ D′ n : ℕ) (p : 0 < A) (q : 0 < s) (stronger
               (times (num 1) (num 9 ⊗ x0 ⊗ x2 ⊕ num 50000 ⊗ x1 ⊗ x3) (x4 ⊗ (num (81 * 10 ^ 20) ⊗ x0)) h (times x0 (num (81 * 10 ^ 20) ⊗ x4) (num 9 ⊗ x2 ⊕ x5) (le-of-eq (sym e)) done))
               (num 9 ⊗ x2 ⊗ x0 ⊕ num 50000 ⊗ x1 ⊗ x3) (x5 ⊗ x0 ⊕ num 9 ⊗ x2 ⊗ x0) refl
 
-module _ (c : Course) (u v w v0 n : ℕ) (h : v ≤ w) (near : Near u v0) (k : NoWeaker c u v v0) where
+module _ (c : Course) (A s v w v0 n : ℕ) (h : v ≤ w) (p : 0 < A) (q : 0 < s) (stronger : A * sOf v ≤ aOf c v v0 * s) where
   beta-rises : betaOf c v v0 ≤ betaOf c w v0
   unfolding betaOf v9
   beta-rises = omega arith
@@ -55,6 +53,6 @@ module _ (c : Course) (u v w v0 n : ℕ) (h : v ≤ w) (near : Near u v0) (k : N
   unfolding squareOf
   square-rises = let b = beta-rises in mul-le-mul (omega arith) (omega arith)
 
-  pub each-fits : 9 * aOf c u v0 * runOf P c (betaOf c w v0) (v9 w) + 50000 * sOf u * squareOf (betaOf c w v0) (v9 v0) ≤ n * (81 * 10 ^ 20 * aOf c u v0) → sumAt P c v v0 ≤ 81 * 10 ^ 20 * aOf c v v0 * n
+  pub each-fits : 9 * A * runOf P c (betaOf c w v0) (v9 w) + 50000 * s * squareOf (betaOf c w v0) (v9 v0) ≤ n * (81 * 10 ^ 20 * A) → sumAt P c v v0 ≤ 81 * 10 ^ 20 * aOf c v v0 * n
   unfolding sumAt
-  each-fits = between _ _ _ _ _ _ _ _ n (k .some) (s-small u (near .high) .1 .1) (k .stronger) run-rises square-rises
+  each-fits = between _ _ _ _ _ _ _ _ n p q stronger run-rises square-rises

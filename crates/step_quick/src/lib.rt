@@ -4,13 +4,14 @@
 // fit, to `step`, `step_row` and `query_permitted`.
 ghost use mathlib.Core.Path.{_≡_};
 ghost use mathlib.Core.Bool.{true};
-ghost use Prim.Native.Nat.{ℕ, _+_, _*_, _^_, _≤_};
-ghost use Rattle.step_braking.specs.Plan.{Small, Near, Enough};
+ghost use Prim.Native.Nat.{ℕ, _+_, _*_, _-_, _^_, _≤_};
+ghost use Rattle.step_braking.specs.Plan.{sOf, aMost, Small, Near, Enough};
 ghost use Rattle.step_curve.specs.declared.Curve.the-variants.{P};
 ghost use Rattle.step_curve.specs.Plan.{aOf, sumAt, placeOf};
-ghost use Rattle.step_quick.specs.Bounds.{IsBounds, IsRun, NoWeaker};
+ghost use Rattle.step_quick.specs.Bounds.{IsBounds, IsRun};
 use step_braking::Course;
 use step_braking::strength;
+use step_braking::strength::Strength;
 use step_curve::Curve;
 use train::Kmh;
 use train::Metre;
@@ -31,15 +32,14 @@ struct Run {
     high: u64,
 }
 
-// The bounds with the deceleration at one speed, and the speed that is left at the same or a higher one.
-pub fn bounds_at(c: Course, from: Kmh, to: Kmh, v0: Kmh) -> Bounds
-    requires { ⌜ Small c × Near (from .0) (v0 .0) × Near (to .0) (v0 .0) × Enough c (from .0) (v0 .0) ⌝ }
-    ensures { λ r. ⌜ IsBounds c (from .0) (to .0) (v0 .0) r ⌝ }
+// The bounds with a deceleration, and the speed that is left at v.
+fn bounds_with(c: Course, s: Strength, v: Kmh, v0: Kmh) -> Bounds
+    requires { ⌜ Small c × Near (v .0) (v0 .0) × (s .unit ≤ 330) × (s .gain ≤ aMost) × (s .loss + 50000000000 * s .unit ≤ s .gain) ⌝ }
+    ensures { λ r. ⌜ IsBounds c (s .gain - s .loss) (s .unit) (v .0) (v0 .0) r ⌝ }
 {
-    let s = strength::at(c, from, v0);
     // V0 is a whole number of these units
     let target = 2500000 * v0.0 as u64;
-    let low = strength::beta(c, to, v0) / 1000000000;
+    let low = strength::beta(c, v, v0) / 1000000000;
     let high = low + 1;
     let a = 81 * (s.gain - s.loss) / 32000000;
     let part = (low - target) * (low + target) / 64 * s.unit / (a + 1);
@@ -50,6 +50,14 @@ pub fn bounds_at(c: Course, from: Kmh, to: Kmh, v0: Kmh) -> Bounds
         part: part,
         most: most,
     }
+}
+
+// The bounds of one speed.
+pub fn bounds_at(c: Course, v: Kmh, v0: Kmh) -> Bounds
+    requires { ⌜ Small c × Near (v .0) (v0 .0) × Enough c (v .0) (v0 .0) ⌝ }
+    ensures { λ r. ⌜ IsBounds c (aOf c (v .0) (v0 .0)) (sOf (v .0)) (v .0) (v0 .0) r ⌝ }
+{
+    bounds_with(c, strength::at(c, v, v0), v, v0)
 }
 
 // The run of a curve, beta being Vβ as in the bounds.
@@ -69,7 +77,7 @@ fn run_at(curve: Curve, c: Course, beta: u64, v: Kmh) -> Run
 
 // A curve's distance from the bounds of its speeds.
 pub fn distance(curve: Curve, c: Course, v: Kmh, v0: Kmh, b: Bounds) -> Millimetre
-    requires { ⌜ Small c × Near (v .0) (v0 .0) × Enough c (v .0) (v0 .0) × IsBounds c (v .0) (v .0) (v0 .0) b ⌝ }
+    requires { ⌜ Small c × Near (v .0) (v0 .0) × Enough c (v .0) (v0 .0) × IsBounds c (aOf c (v .0) (v0 .0)) (sOf (v .0)) (v .0) (v0 .0) b ⌝ }
     ensures { λ r. ⌜ r .0 ≡ placeOf curve c (v .0) (v0 .0) ⌝ }
 {
     let run = run_at(curve, c, b.beta, v);
@@ -96,13 +104,17 @@ fn room_of(d: Metre) -> u64
     }
 }
 
-// That the P distance of every speed from one to another is at most d, where the bounds show it. It is worked out once: with the
-// deceleration of the first, the weakest, and the speeds of the last. In 256 µm the room times a is no longer than a word.
+// That at every speed from one to another the train is strong enough and its P distance at most d, where the bounds show it. It
+// is worked out once: with the weakest deceleration and the speeds of the last. In 256 µm the room times a is no longer than a word.
 pub fn surely_fit(c: Course, from: Kmh, to: Kmh, v0: Kmh, d: Metre) -> bool
-    requires { ⌜ Small c × Near (from .0) (v0 .0) × Near (to .0) (v0 .0) × Enough c (from .0) (v0 .0) ⌝ }
-    ensures { λ r. ⌜ (r ≡ true → (v : ℕ) → v ≤ to .0 → NoWeaker c (from .0) v (v0 .0) → sumAt P c v (v0 .0) ≤ 81 * 10 ^ 20 * aOf c v (v0 .0) * (1000 * d .0)) ⌝ }
+    requires { ⌜ Small c × Near (from .0) (v0 .0) × Near (to .0) (v0 .0) × (from .0 ≤ to .0) ⌝ }
+    ensures { λ r. ⌜ (r ≡ true → (v : ℕ) → from .0 ≤ v → v ≤ to .0 → Enough c v (v0 .0) × (sumAt P c v (v0 .0) ≤ 81 * 10 ^ 20 * aOf c v (v0 .0) * (1000 * d .0))) ⌝ }
 {
-    let b = bounds_at(c, from, to, v0);
+    let s = strength::weakest(c, from, to, v0);
+    if s.gain < s.loss + 50000000000 * s.unit {
+        return false;
+    }
+    let b = bounds_with(c, s, to, v0);
     let run = run_at(Curve::P, c, b.beta, to);
     let room = room_of(d);
     if room < run.high {

@@ -4,6 +4,7 @@
 // Takes: every operation. Gives: a program.
 mod grid;
 mod models;
+mod owns;
 mod sheets;
 mod tails;
 mod text;
@@ -21,7 +22,11 @@ fn print_line(table: u32, k: usize) {
         5 => models::climb_line(k),
         6 => sheets::sheet_line(k),
         7 => sheets::query_line(k),
-        _ => tails::tail_line(k),
+        8 => tails::tail_line(k),
+        9 => owns::own_step_line(k),
+        10 => owns::own_row_line(k),
+        11 => owns::own_ramp_line(k),
+        _ => owns::own_query_line(k),
     }
 }
 
@@ -76,4 +81,33 @@ fn main() {
         b"# tail L i overlap head = refusal release permitted mark W SBI EBI\n",
     );
     print_table(8, 560);
+    print_own();
+}
+
+// The same with a train's own coefficients.
+fn print_own() {
+    io::write_all(
+        STDOUT_FILENO,
+        b"# own_step dt h kr cr nc vc ki1 ki2 ki3 i1 i2 V V0 i = refusal EBI SBI W P\n",
+    );
+    print_table(9, 750);
+    io::write_all(
+        STDOUT_FILENO,
+        b"# own_row dt h kr cr nc vc ki1 ki2 ki3 i1 i2 V0 i = refusal length distances\n",
+    );
+    print_table(10, 50);
+    io::write_all(
+        STDOUT_FILENO,
+        b"# own_ramp ki1 ki2 ki3 i1 i2 i V = refusal distance moment\n",
+    );
+    print_table(11, 198);
+    io::write_all(
+        STDOUT_FILENO,
+        b"# own_query dt h kr cr nc vc ki1 ki2 ki3 i1 i2 i overlap head",
+    );
+    io::write_all(
+        STDOUT_FILENO,
+        b" = refusal release permitted mark W SBI EBI\n",
+    );
+    print_table(12, 400);
 }

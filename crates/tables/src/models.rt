@@ -3,6 +3,8 @@ use super::grid;
 use super::text;
 use ceilings::Limits;
 use libc::STDOUT_FILENO;
+use ramp::Stop;
+use step::Distances;
 use train::Kmh;
 
 const ROW_GRADIENTS: [i32; 3] = [-20, 0, 10];
@@ -33,31 +35,35 @@ pub fn stored_line(k: usize) {
     limits(v, ceilings_stored::stored(Kmh(v)));
 }
 
+pub fn distances(d: Distances) {
+    let ebi = d.ebi;
+    let sbi = d.sbi;
+    let w = d.w;
+    let p = d.p;
+    text::field(d.refusal);
+    text::field(ebi.0);
+    text::field(sbi.0);
+    text::field(w.0);
+    text::field(p.0);
+}
+
 pub fn step_line(k: usize) {
     let v = grid::speed(k);
     let v0 = grid::target(k);
     let i = grid::gradient(k / 15);
     let train = grid::train(k / 3150, grid::weight(k / 1050), grid::length(k / 210), 160);
-    let d = step::step(train, Kmh(v), Kmh(v0), i);
-    let ebi = d.ebi;
-    let sbi = d.sbi;
-    let w = d.w;
-    let p = d.p;
+    let d = step::step(train::first_values(), train, Kmh(v), Kmh(v0), i);
     io::write_all(STDOUT_FILENO, b"step");
     text::train(train);
     text::field(v);
     text::field(v0);
     text::gradient(i);
     text::equals();
-    text::field(d.refusal);
-    text::field(ebi.0);
-    text::field(sbi.0);
-    text::field(w.0);
-    text::field(p.0);
+    distances(d);
     text::end();
 }
 
-fn places(row: &[u32]) {
+pub fn places(row: &[u32]) {
     let mut k: usize = 0;
     while k < row.len() {
         text::field(row[k]);
@@ -72,7 +78,8 @@ pub fn row_line(k: usize) {
     let i = ROW_GRADIENTS[k / 8 % 3];
     let train = grid::train(k / 24, 100, 954, 330);
     let mut row = [0u32; 331];
-    let written = step_row::row(grid::curve(number), train, Kmh(v0), i, &mut row);
+    let first = train::first_values();
+    let written = step_row::row(grid::curve(number), first, train, Kmh(v0), i, &mut row);
     io::write_all(STDOUT_FILENO, b"row");
     text::field(number as u32);
     text::train(train);
@@ -85,9 +92,17 @@ pub fn row_line(k: usize) {
     text::end();
 }
 
+pub fn stop(answer: Stop) {
+    let distance = answer.distance;
+    text::field(answer.refusal);
+    text::field(distance.0);
+    text::field(answer.moment);
+}
+
 fn run_line(weight: u32, i: i32, v: u32, tm: u32, tr: u32) {
-    let stop = ramp::ramp(weight, i, Kmh(v), tm, tr);
-    let distance = stop.distance;
+    let first = train::first_values();
+    let inertia = first.inertia;
+    let answer = ramp::ramp(weight, i, Kmh(v), tm, tr, inertia);
     io::write_all(STDOUT_FILENO, b"ramp");
     text::field(weight);
     text::gradient(i);
@@ -95,9 +110,7 @@ fn run_line(weight: u32, i: i32, v: u32, tm: u32, tr: u32) {
     text::field(tm);
     text::field(tr);
     text::equals();
-    text::field(stop.refusal);
-    text::field(distance.0);
-    text::field(stop.moment);
+    stop(answer);
     text::end();
 }
 

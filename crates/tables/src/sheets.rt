@@ -126,7 +126,15 @@ pub fn query_line(k: usize) {
     let train = grid::train(k / 360, grid::weight(k / 1440), 600, TOPS[k / 4320 % 2]);
     let mut lent = [0u8; 92];
     write(300, gradient, 700, overlap, 6000, &mut lent);
-    let answer = query::query(train, tm, tr, &lent, signal, Metre(head));
+    let answer = query::query(
+        train::first_values(),
+        train,
+        tm,
+        tr,
+        &lent,
+        signal,
+        Metre(head),
+    );
     io::write_all(STDOUT_FILENO, b"query");
     text::train(train);
     text::field(tm);

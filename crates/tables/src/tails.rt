@@ -47,7 +47,15 @@ pub fn tail_line(k: usize) {
     let train = grid::train(0, 100, length, 330);
     let mut lent = [0u8; 44];
     write(gradient, overlap, head, &mut lent);
-    let answer = query::query(train, 200, 400, &lent, 0, Metre(head));
+    let answer = query::query(
+        train::first_values(),
+        train,
+        200,
+        400,
+        &lent,
+        0,
+        Metre(head),
+    );
     io::write_all(STDOUT_FILENO, b"tail");
     text::field(length);
     text::short_gradient(gradient);

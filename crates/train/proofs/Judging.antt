@@ -12,10 +12,12 @@ use lib.Dec.{T, ltb, leb, leb→le}
 use Rattle.exact.specs.Fraction.{Fraction, _over_}
 use Rattle.train.specs.declared.Train.{Train}
 use Rattle.train.specs.declared.Gradient.{Gradient}
+use Rattle.train.specs.declared.Inertia.{Inertia}
+use Rattle.train.specs.declared.Coefficients.{Coefficients}
 use Rattle.train.specs.Gradient.{Moderate}
-use Rattle.train.specs.Refusal.{Refusal, _gives_, firstOf, weightRefusals, trainRefusals, gradientRefusals, strongEnough}
-use Rattle.train.specs.Judged.{Rule, _keeps_, AllKept, FirstBroken, Judged, weightRule, lengthRule, TopSpeed, trainRules, gradientRule, brakeRule}
-use Rattle.train.proofs.Refusals.{first-before}
+use Rattle.train.specs.Refusal.{Refusal, _gives_, firstOf, weightRefusals, trainRefusals, gradientRefusals, outsideOf, inertiaRefusals, ownRefusals, coefficientRefusals, strongEnough}
+use Rattle.train.specs.Judged.{Rule, _keeps_, AllKept, FirstBroken, Judged, weightRule, lengthRule, TopSpeed, trainRules, gradientRule, inertiaRule, coefficientRule, brakeRule}
+use Rattle.train.proofs.Refusals.{first-after, first-before, NoneHolds, Some, only, nothing, own-rising, inertia-only, coefficients-only}
 
 -- 0 or above
 some : (n : ℕ) → (n ≡ 0) ⊎ (0 < n)
@@ -120,12 +122,25 @@ module _ (n : ℕ) (above : T (leb 1 n)) (a b : ℕ) where
   pub below : Settles (n keeps (a < b)) (leb b a gives n ∷ [])
   below = settled (n keeps (a < b)) above (leb b a) (leb-false b a) (λ e l. not-le-of-lt l (leb-true b a e))
 
-fives : (w : ℕ) → Settles (1 keeps ((n : ℕ) × (w ≡ 5 * n))) (ltb 0 (w % 5) gives 1 ∷ [])
-fives w =
-    settled (1 keeps ((n : ℕ) × (w ≡ 5 * n))) tt _ (λ e. let l = ltb-false _ (w % 5) e in (w / 5, omega arith)) (λ e (n, i). let l = ltb-true _ (w % 5) e in omega arith)
+-- a number by fives, and one within a span
+module _ (n : ℕ) (above : T (leb 1 n)) where
+  fives : (a : ℕ) → Settles (n keeps ((m : ℕ) × (a ≡ 5 * m))) (ltb 0 (a % 5) gives n ∷ [])
+  fives a =
+      settled (n keeps ((m : ℕ) × (a ≡ 5 * m))) above _ (λ e. let l = ltb-false _ (a % 5) e in (a / 5, omega arith)) (λ e (m, i). let l = ltb-true _ (a % 5) e in omega arith)
+
+  spanned : (least most a : ℕ) → Settles (n keeps ((least ≤ a) × (a ≤ most))) (outsideOf least most a gives n ∷ [])
+  spanned least most a = settled (n keeps ((least ≤ a) × (a ≤ most))) above (outsideOf least most a) (within (ltb a least) refl) (without (ltb a least) refl)
+    where
+      within : (b : Bool) → ltb a least ≡ b → cond b true (ltb most a) ≡ false → (least ≤ a) × (a ≤ most)
+      within true e f = absurd (subst T f tt)
+      within false e f = (ltb-false a least e, ltb-false most a f)
+
+      without : (b : Bool) → ltb a least ≡ b → cond b true (ltb most a) ≡ true → (least ≤ a) × (a ≤ most) → ⊥
+      without true e f = λ h. not-le-of-lt (ltb-true a least e) (h .0)
+      without false e f = λ h. not-le-of-lt (ltb-true most a f) (h .1)
 
 pub weight-settles : (w : ℕ) → Settles (weightRule w) (weightRefusals w)
-weight-settles w = at-least 1 tt 45 w and at-least 1 tt w 160 and fives w
+weight-settles w = at-least 1 tt 45 w and at-least 1 tt w 160 and fives 1 tt w
 
 pub length-settles : (t : Train) → Settles (lengthRule t) (ltb 1000 (t .length .0) gives 2 ∷ [])
 length-settles t = at-least 2 tt (t .length .0) 1000
@@ -137,6 +152,42 @@ pub gradient-settles : (g : Gradient) → Settles (gradientRule g) (gradientRefu
 gradient-settles g =
     let s = at-least 5 tt (g .rise) 35 and at-least 5 tt (g .fall) 35 in
     record { numbers = s .numbers; yes = λ e. let (a, b) = s .yes e in record { rise = a; fall = b }; no = λ l. let (e, f) = s .no l in (e, λ m. f (m .rise, m .fall)) }
+
+-- coefficients within their spans and steps
+pub inertia-settles : (k : Inertia) → Settles (inertiaRule k) (inertiaRefusals k)
+inertia-settles k =
+    let s =
+    spanned 12 tt 80 120 (k .ki1)
+    and spanned 12 tt 80 120 (k .ki2)
+    and spanned 12 tt 80 120 (k .ki3)
+    and at-least 12 tt (k .i1) 35
+    and at-least 12 tt (k .i2 .rise) 0
+    and at-least 12 tt (k .i2 .fall) 35 in
+    record {
+      numbers = s .numbers;
+      yes = λ e. let (a, (b, (c, (d, (f, g))))) = s .yes e in record { ki1-least = a .0; ki1 = a .1; ki2-least = b .0; ki2 = b .1; ki3-least = c .0; ki3 = c .1; i1 = d; i2-up = f; i2 = g };
+      no = λ l. let (e, f) = s .no l in (e, λ m. f ((m .ki1-least, m .ki1), ((m .ki2-least, m .ki2), ((m .ki3-least, m .ki3), (m .i1, (m .i2-up, m .i2))))));
+    }
+
+pub coefficients-settle : (k : Coefficients) → Settles (coefficientRule k) (coefficientRefusals k)
+coefficients-settle k =
+    let s =
+    at-least 12 tt (k .dt) 200
+    and at-least 12 tt (k .h) 50
+    and spanned 12 tt 30 150 (k .kr)
+    and at-least 12 tt (k .cr) 10
+    and at-least 12 tt (k .nc .plus) 10
+    and at-least 12 tt (k .nc .minus) 10
+    and at-least 12 tt (k .vc .0) 400
+    and fives 12 tt (k .vc .0)
+    and inertia-settles (k .inertia) in
+    record {
+      numbers = s .numbers;
+      yes = λ e.
+          let (a, (b, (c, (d, (f, (g, (h, (i, j)))))))) = s .yes e in
+          record { dt = a; h = b; kr-least = c .0; kr = c .1; cr = d; plus = f; minus = g; vc = h; vc-fives = i; inertia = j };
+      no = λ l. let (e, f) = s .no l in (e, λ m. f (m .dt, (m .h, ((m .kr-least, m .kr), (m .cr, (m .plus, (m .minus, (m .vc, (m .vc-fives, m .inertia)))))))));
+    }
 
 -- a brake that is strong enough
 pub brake-settles : (d : Fraction) → Settles (brakeRule d) (not (strongEnough d) gives 10 ∷ [])
@@ -151,6 +202,26 @@ train-judges t = weight-settles (t .weight) then length-settles t then top-settl
 pub gradient-judges : (g : Gradient) → Judges (gradientRule g ∷ []) (gradientRefusals g)
 gradient-judges g = gradient-settles g then no-more
 
+pub inertia-judges : (k : Inertia) → Judges (inertiaRule k ∷ []) (inertiaRefusals k)
+inertia-judges k = inertia-settles k then no-more
+
+pub coefficients-judge : (k : Coefficients) → Judges (coefficientRule k ∷ []) (coefficientRefusals k)
+coefficients-judge k = coefficients-settle k then no-more
+
 -- what a function that goes through the conditions tells
 pub told : {rs : List Rule} {cs : List Refusal} {n : ℕ} → Judges rs cs → n ≡ firstOf cs → (n ≡ firstOf cs) × Judged rs n
 told j e = (e, rw e (j .judged))
+
+-- of coefficients: any of their conditions gives 12, and where none holds it is 0
+pub inertia-turned : (k : Inertia) → Some (inertiaRefusals k) → (12 ≡ firstOf (inertiaRefusals k)) × Judged (inertiaRule k ∷ []) 12
+inertia-turned k s = told (inertia-judges k) (only 12 (inertiaRefusals k) (inertia-only k) s)
+
+pub inertia-taken : (k : Inertia) → NoneHolds (inertiaRefusals k) → (0 ≡ firstOf (inertiaRefusals k)) × Judged (inertiaRule k ∷ []) 0
+inertia-taken k n = told (inertia-judges k) (nothing (inertiaRefusals k) n)
+
+pub coefficients-turned : (k : Coefficients) → Some (coefficientRefusals k) → (12 ≡ firstOf (coefficientRefusals k)) × Judged (coefficientRule k ∷ []) 12
+coefficients-turned k s = told (coefficients-judge k) (only 12 (coefficientRefusals k) (coefficients-only k) s)
+
+pub inertia-left : (k : Coefficients) (n : ℕ) → NoneHolds (ownRefusals k) → n ≡ firstOf (inertiaRefusals (k .inertia)) → (n ≡ firstOf (coefficientRefusals k)) × Judged (coefficientRule k ∷ []) n
+inertia-left k n h e =
+    told (coefficients-judge k) (e ∙ sym (first-after 0 (ownRefusals k) (inertiaRefusals (k .inertia)) (own-rising k) (sym (nothing (ownRefusals k) h))))

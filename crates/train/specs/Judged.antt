@@ -6,7 +6,10 @@ use Prim.Native.Nat.{ℕ, _*_, _≤_, _<_}
 use Rattle.exact.specs.Fraction.{Fraction, _over_, _≤q_, _<q_}
 use Rattle.train.specs.declared.Train.{Train}
 use Rattle.train.specs.declared.Gradient.{Gradient}
+use Rattle.train.specs.declared.Inertia.{Inertia}
+use Rattle.train.specs.declared.Coefficients.{Coefficients}
 use Rattle.train.specs.Gradient.{Moderate}
+use Rattle.train.specs.Coefficients.{InertiaWithin, Within}
 
 -- a refusal's number, what is kept where it is not given, and what is so where it is
 pub record Rule : Type 1 where
@@ -49,6 +52,13 @@ trainRules t = weightRule (t .weight) ∷ lengthRule t ∷ 3 keeps TopSpeed t �
 
 abbrev pub gradientRule : Gradient → Rule
 gradientRule g = 5 keeps Moderate g
+
+-- document 02, Card 5: each coefficient within its span and step
+abbrev pub inertiaRule : Inertia → Rule
+inertiaRule k = 12 keeps InertiaWithin k
+
+abbrev pub coefficientRule : Coefficients → Rule
+coefficientRule k = 12 keeps Within k
 
 -- dp + di of 0.05 m/s² or more; less is refusal 10
 abbrev pub brakeRule : Fraction → Rule

@@ -1,6 +1,6 @@
 // The train, the line's gradient and document 002's coefficients, in the units that every model takes and returns.
-// Takes: `exact`. Gives: units, `Train`, `Coefficients` and refusals 1, 2, 3 and 5, to every model above; what every contract says of
-// refusals and of lent memory (specs/Judged.antt, Lent.antt).
+// Takes: `exact`. Gives: units, `Train`, `Coefficients` and refusals 1, 2, 3, 5 and 12, to every model above; what every contract says
+// of refusals and of lent memory (specs/Judged.antt, Lent.antt).
 ghost use mathlib.Core.Path.{_≡_};
 ghost use Rattle.train.specs.Coefficients.{first};
 
@@ -51,8 +51,17 @@ pub struct Signed {
     pub minus: u32,
 }
 
-// Document 002's coefficients by its names: h in tenths of a second, nc in thousandths per km/h, i1 in per mille uphill,
-// i2 in per mille downhill, the others in hundredths.
+// The coefficients of the slope by document 002's names, which hold for the ramp too: i1 in per mille uphill, i2 a gradient, the
+// others in hundredths.
+pub struct Inertia {
+    pub ki1: u32,
+    pub ki2: u32,
+    pub ki3: u32,
+    pub i1: u32,
+    pub i2: Gradient,
+}
+
+// Document 002's coefficients by its names: h in tenths of a second, nc in thousandths per km/h, the others in hundredths.
 pub struct Coefficients {
     pub dt: u32,
     pub h: u32,
@@ -60,11 +69,7 @@ pub struct Coefficients {
     pub cr: u32,
     pub nc: Signed,
     pub vc: Kmh,
-    pub ki1: u32,
-    pub ki2: u32,
-    pub ki3: u32,
-    pub i1: u32,
-    pub i2: u32,
+    pub inertia: Inertia,
 }
 
 const FIRST: Coefficients = Coefficients {
@@ -74,11 +79,13 @@ const FIRST: Coefficients = Coefficients {
     cr: 5,
     nc: Signed { plus: 0, minus: 0 },
     vc: Kmh(150),
-    ki1: 90,
-    ki2: 100,
-    ki3: 110,
-    i1: 0,
-    i2: 21,
+    inertia: Inertia {
+        ki1: 90,
+        ki2: 100,
+        ki3: 110,
+        i1: 0,
+        i2: Gradient { rise: 0, fall: 21 },
+    },
 };
 
 // Document 002's first values.

@@ -1,9 +1,11 @@
-// What is turned away of a train and of a gradient: the number of document 01's table, or 0.
+// What is turned away of a train, of a gradient and of coefficients: the number of documents 01 and 02, or 0.
 ghost use mathlib.Core.Path.{_≡_};
 ghost use mathlib.Core.List.{[], _∷_};
-ghost use Rattle.train.specs.Refusal.{firstOf, weightRefusals, trainRefusals, gradientRefusals};
-ghost use Rattle.train.specs.Judged.{Judged, weightRule, trainRules, gradientRule};
+ghost use Rattle.train.specs.Refusal.{firstOf, weightRefusals, trainRefusals, gradientRefusals, outsideOf, inertiaRefusals, coefficientRefusals};
+ghost use Rattle.train.specs.Judged.{Judged, weightRule, trainRules, gradientRule, inertiaRule, coefficientRule};
+use super::Coefficients;
 use super::Gradient;
+use super::Inertia;
 use super::Train;
 
 // Of a braked weight percentage: 1.
@@ -55,4 +57,74 @@ pub fn of_gradient(g: Gradient) -> u32
         return 5;
     }
     0
+}
+
+// Whether a number is outside its span.
+fn outside(n: u32, least: u32, most: u32) -> bool
+    ensures { λ r. ⌜ r ≡ outsideOf least most n ⌝ }
+{
+    if n < least {
+        return true;
+    }
+    n > most
+}
+
+// Of the coefficients of the slope: 12.
+pub fn of_inertia(k: Inertia) -> u32
+    ensures { λ r. ⌜ (r ≡ firstOf (inertiaRefusals k)) × Judged (inertiaRule k ∷ []) r ⌝ }
+{
+    let i2 = k.i2;
+    if outside(k.ki1, 80, 120) {
+        return 12;
+    }
+    if outside(k.ki2, 80, 120) {
+        return 12;
+    }
+    if outside(k.ki3, 80, 120) {
+        return 12;
+    }
+    if k.i1 > 35 {
+        return 12;
+    }
+    if i2.rise > 0 {
+        return 12;
+    }
+    if i2.fall > 35 {
+        return 12;
+    }
+    0
+}
+
+// Of a train's coefficients: 12.
+pub fn of_coefficients(k: Coefficients) -> u32
+    ensures { λ r. ⌜ (r ≡ firstOf (coefficientRefusals k)) × Judged (coefficientRule k ∷ []) r ⌝ }
+{
+    let nc = k.nc;
+    let vc = k.vc;
+    let inertia = k.inertia;
+    if k.dt > 200 {
+        return 12;
+    }
+    if k.h > 50 {
+        return 12;
+    }
+    if outside(k.kr, 30, 150) {
+        return 12;
+    }
+    if k.cr > 10 {
+        return 12;
+    }
+    if nc.plus > 10 {
+        return 12;
+    }
+    if nc.minus > 10 {
+        return 12;
+    }
+    if vc.0 > 400 {
+        return 12;
+    }
+    if vc.0 % 5 > 0 {
+        return 12;
+    }
+    of_inertia(inertia)
 }

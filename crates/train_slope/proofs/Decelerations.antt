@@ -10,11 +10,11 @@ use Rattle.exact.proofs.Polynomial.{num, _⊕_, _⊗_}
 use Rattle.exact.proofs.Certificate.{x0, x1, x2, done}
 use Rattle.exact.proofs.Shape.{shape, wholeE, overE, _+e_, _*e_}
 use Rattle.exact.proofs.Substitution.{≈q-refl, becomes}
-use Rattle.train.specs.declared.Coefficients.{Coefficients}
+use Rattle.train.specs.declared.Inertia.{Inertia}
 use Rattle.train.specs.declared.Gradient.{Gradient}
 use Rattle.train_slope.specs.Slope.{factor, di, dr}
 
-pub di-is : (k : Coefficients) (g : Gradient) → di k g ≈q signed (factor k g * 981 * g .rise) (factor k g * 981 * g .fall) (10 ^ 7)
+pub di-is : (k : Inertia) (g : Gradient) → di k g ≈q signed (factor k g * 981 * g .rise) (factor k g * 981 * g .fall) (10 ^ 7)
 unfolding di
 di-is k g =
     becomes (factor k g ∷ g .rise ∷ g .fall ∷ []) done (overE x0 100 *e (overE (num 981) 100 *e shape x1 x2 (num 1000)))

@@ -5,10 +5,10 @@ ghost use mathlib.Core.Path.{_≡_};
 ghost use Prim.Native.Nat.{_≤_, _^_};
 ghost use Rattle.exact.specs.Fraction.{signed, _over_, _≈q_};
 ghost use Rattle.train.specs.Gradient.{gradientOf, Moderate};
-ghost use Rattle.train.specs.Coefficients.{Within};
+ghost use Rattle.train.specs.Coefficients.{InertiaWithin};
 ghost use Rattle.train_slope.specs.Slope.{factor, di, dr};
-use train::Coefficients;
 use train::Gradient;
+use train::Inertia;
 
 // A slope's deceleration in 10⁻⁷ m/s²: up7 of an uphill slope, which slows the train, or dn7 of a downhill one.
 pub struct Pull {
@@ -35,22 +35,23 @@ pub fn gradient_of(i: i32) -> Gradient
 }
 
 // Ki, the coefficient that a gradient takes, in hundredths.
-pub fn factor_of(k: Coefficients, g: Gradient) -> u32
-    requires { ⌜ Within k × Moderate g ⌝ }
+pub fn factor_of(k: Inertia, g: Gradient) -> u32
+    requires { ⌜ InertiaWithin k × Moderate g ⌝ }
     ensures { λ r. ⌜ r ≡ factor k g ⌝ }
 {
     if g.rise > k.i1 + g.fall {
         return k.ki1;
     }
-    if g.fall >= k.i2 + g.rise {
+    let i2 = k.i2;
+    if i2.rise + g.fall >= i2.fall + g.rise {
         return k.ki3;
     }
     k.ki2
 }
 
 // di, the slope's deceleration.
-pub fn pull_of(k: Coefficients, g: Gradient) -> Pull
-    requires { ⌜ Within k × Moderate g ⌝ }
+pub fn pull_of(k: Inertia, g: Gradient) -> Pull
+    requires { ⌜ InertiaWithin k × Moderate g ⌝ }
     ensures { λ r. ⌜ (di k g ≈q signed (r .up7) (r .dn7) (10 ^ 7)) × (r .up7 ≤ 4120200) × (r .dn7 ≤ 4120200) ⌝ }
 {
     let slope = factor_of(k, g) as u64 * 981;

@@ -2,7 +2,7 @@
 //! format and the exit statuses.
 mod command;
 
-use approach::{step, Curve, Kmh, Metre, PerMille, Train, CURVES};
+use approach::{step, Coefficients, Curve, Kmh, Metre, PerMille, Train, CURVES};
 use command::{natural, whole, Trouble};
 use std::io::{self, BufRead, Write};
 use std::process::ExitCode;
@@ -27,6 +27,9 @@ struct Entry {
 /// A single distance may be asked for above a train's top speed, so this one serves for all.
 const TOP_SPEED: Kmh = Kmh(330);
 
+/// The table names none of a train's own.
+const COEFFICIENTS: Coefficients = Coefficients::FIRST_VALUES;
+
 const USAGE: &str = "usage: compare [ebi|sbi|w|p] < table, or compare --help";
 
 const HELP: &str = "\
@@ -34,7 +37,7 @@ usage: compare [ebi|sbi|w|p] < table
 
 Holds a maker's table of stopping distances to the library's, and prints the lines that are short.
 The curve is EBI (emergency brake intervention) unless SBI (service brake intervention), W (warning)
-or P (permitted speed) is named.
+or P (permitted speed) is named. The trains have the first values of RFI TC.SCC SR AV 03 R02.
 
 A line of the table has eight fields, parted by spaces, such as
     passenger ep 100 200 0 0 90 842.532
@@ -88,7 +91,14 @@ fn entry(line: &str) -> Result<Entry, String> {
     let braked_weight = natural("the braked weight", braked_weight)?;
     let length = Metre(natural("the length", length)?);
     Ok(Entry {
-        train: Train { brake, electropneumatic, braked_weight, length, top_speed: TOP_SPEED },
+        train: Train {
+            brake,
+            electropneumatic,
+            braked_weight,
+            length,
+            top_speed: TOP_SPEED,
+            coefficients: COEFFICIENTS,
+        },
         gradient: PerMille(whole("the gradient", gradient)?),
         target: Kmh(natural("V0", target)?),
         v: Kmh(natural("V", v)?),

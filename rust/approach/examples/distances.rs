@@ -1,5 +1,5 @@
 //! The distances of one train, the ceilings of the speeds it comes from, and how far it gets past a closed signal.
-use approach::{ceilings, ramp, step, Brake, Hundredth, Kmh, Metre, PerMille, Refusal, Times, Train};
+use approach::{ceilings, ramp, step, Brake, Coefficients, Hundredth, Kmh, Metre, PerMille, Refusal, Times, Train};
 use std::env;
 use std::fmt::Display;
 use std::process::ExitCode;
@@ -10,6 +10,7 @@ const TRAIN: Train = Train {
     braked_weight: 100,
     length: Metre(200),
     top_speed: Kmh(160),
+    coefficients: Coefficients::FIRST_VALUES,
 };
 
 /// The figure of a quantity; its unit stands over the column.
@@ -49,7 +50,7 @@ fn past_the_signal() -> Result<String, Refusal> {
     out += &line(&["km/h", "‰", "s", "s", "m", "s"]);
     for (v, gradient, tm, tr) in [(36, 0, 200, 400), (1, 0, 0, 3000), (1, 35, 2000, 1), (30, -20, 300, 460)] {
         let (v, gradient, times) = (Kmh(v), PerMille(gradient), Times { dead: Hundredth(tm), rise: Hundredth(tr) });
-        let stop = ramp(TRAIN.braked_weight, gradient, v, times)?;
+        let stop = ramp(TRAIN.braked_weight, gradient, v, times, TRAIN.coefficients.inertia)?;
         let [dead, rise] = [times.dead, times.rise].map(figure);
         out += &line(&[figure(v), figure(gradient), dead, rise, figure(stop.distance), figure(stop.moment)]);
     }

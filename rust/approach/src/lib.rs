@@ -1,15 +1,16 @@
 //! Approach speeds and stopping distances after RFI TC.SCC SR AV 03 R02 and RFI TC.PATC ST CM 01 M11: a safe wrapper over the
 //! proved calls of `libapproach.a`, which `make archives` makes.
 //!
-//! Every call takes every input. It answers, or it says why not by a [`Refusal`], the lowest of document 01's numbers that
-//! applies; memory that is lent is written in the part that is handed back, and nowhere else.
+//! Every call takes every input. It answers, or it says why not by a [`Refusal`], the first that applies in the order of
+//! [`Refusal::DECIDED`]; memory that is lent is written in the part that is handed back, and nowhere else.
 //!
 //! # An example
 //!
-//! A passenger train of 200 m, its electropneumatic brake working, comes up to the signal at 1,057 m of a level line.
+//! A passenger train of 200 m, its electropneumatic brake working and its coefficients document 002's first values, comes up to
+//! the signal at 1,057 m of a level line.
 //!
 //! ```
-//! use approach::{query, sheet, step, Brake, Hundredth, Kmh, Mark, Metre, PerMille, Refusal, Times, Train};
+//! use approach::{query, sheet, step, Brake, Coefficients, Hundredth, Kmh, Mark, Metre, PerMille, Refusal, Times, Train};
 //!
 //! # fn main() -> Result<(), Refusal> {
 //! let train = Train {
@@ -18,6 +19,7 @@
 //!     braked_weight: 100,
 //!     length: Metre(200),
 //!     top_speed: Kmh(100),
+//!     coefficients: Coefficients::FIRST_VALUES,
 //! };
 //!
 //! // From 90 km/h to a stop: how far before the signal the emergency brake, at the latest, has to act.
@@ -49,6 +51,7 @@
 //! ```
 #![warn(missing_docs)]
 
+mod coefficients;
 mod models;
 mod query;
 pub mod raw;
@@ -56,6 +59,7 @@ mod refusal;
 pub mod sheet;
 mod units;
 
+pub use coefficients::{first_values, Coefficients, Inertia};
 pub use models::{
     ceilings, ceilings_stored, ramp, row, step, Brake, Ceilings, Curve, Distances, Stop, Times, Train, CURVES,
     LONGEST_ROW,

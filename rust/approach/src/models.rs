@@ -1,4 +1,5 @@
 //! Stopping distances, ceilings, and the way past a closed signal.
+use crate::coefficients::{Coefficients, Inertia};
 use crate::raw;
 use crate::refusal::{accepted, Refusal};
 use crate::units::{Ceiling, Hundredth, Kmh, Metre, Millimetre, Millisecond, PerMille};
@@ -47,13 +48,16 @@ pub struct Train {
     pub length: Metre,
     /// The service regime's, 1 to 330 km/h.
     pub top_speed: Kmh,
+    /// The train's own, or [`Coefficients::FIRST_VALUES`].
+    pub coefficients: Coefficients,
 }
 
 impl From<Train> for raw::Train {
     fn from(train: Train) -> raw::Train {
-        let Train { brake, electropneumatic, braked_weight, length, top_speed } = train;
+        let Train { brake, electropneumatic, braked_weight, length, top_speed, coefficients } = train;
         let (freight, electropneumatic) = ((brake == Brake::Freight).into(), electropneumatic.into());
-        raw::Train { freight, electropneumatic, braked_weight, length: length.0, top_speed: top_speed.0 }
+        let (length, top_speed, coefficients) = (length.0, top_speed.0, coefficients.into());
+        raw::Train { freight, electropneumatic, braked_weight, length, top_speed, coefficients }
     }
 }
 
@@ -140,10 +144,11 @@ pub struct Stop {
 }
 
 /// How far a train gets that is braked at a closed signal, from a speed of 1 to 100 km/h. From a higher one, all else alike, it
-/// gets further.
-pub fn ramp(braked_weight: u32, gradient: PerMille, v: Kmh, times: Times) -> Result<Stop, Refusal> {
+/// gets further. Of its coefficients those of the slope alone count.
+pub fn ramp(braked_weight: u32, gradient: PerMille, v: Kmh, times: Times, inertia: Inertia) -> Result<Stop, Refusal> {
     let Times { dead, rise } = times;
-    let raw::Stop { refusal, distance, moment } = raw::ramp(braked_weight, gradient.0, v.0, dead.0, rise.0);
+    let stop = raw::ramp(braked_weight, gradient.0, v.0, dead.0, rise.0, inertia.into());
+    let raw::Stop { refusal, distance, moment } = stop;
     accepted(refusal, Stop { distance: Millimetre(distance), moment: Millisecond(moment) })
 }
 

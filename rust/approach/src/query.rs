@@ -9,8 +9,8 @@ use std::fmt;
 #[derive(Clone, Copy, Debug, PartialEq, Eq)]
 #[repr(u32)]
 pub enum Mark {
-    /// Its P distance to the release speed. This mark also stands where the top speed ends the climb: nothing but the top
-    /// speed holds a permitted speed that equals it.
+    /// At the next speed the P distance to the release speed is longer than the way to the signal, or the brake too weak. This
+    /// mark also stands where the top speed ends the climb: nothing but the top speed holds a permitted speed that equals it.
     Curve = raw::CURVE,
     /// The release speed, whose own P distance is longer than the way to the signal.
     Release = raw::RELEASE,

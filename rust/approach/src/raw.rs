@@ -1,6 +1,42 @@
 //! The calls as `include/approach.h` declares them, each safe since it takes every input: an answer is the number 0 and its
 //! fields, or a refusal's number and zeros.
 
+/// What turning masses make of a slope: three factors in hundredths, and the gradients in per mille that part them.
+#[repr(C)]
+#[derive(Clone, Copy, Debug, PartialEq, Eq)]
+pub struct Inertia {
+    /// On gradients above i1.
+    pub ki1: u32,
+    /// On gradients above i2, up to i1.
+    pub ki2: u32,
+    /// On gradients of i2 and below.
+    pub ki3: u32,
+    /// Per mille.
+    pub i1: u32,
+    /// Per mille.
+    pub i2: i32,
+}
+
+/// A train's coefficients, in hundredths where nothing else is said.
+#[repr(C)]
+#[derive(Clone, Copy, Debug, PartialEq, Eq)]
+pub struct Coefficients {
+    /// Of the brake's delay.
+    pub dt: u32,
+    /// The equipment's delay, in tenths of a second.
+    pub h: u32,
+    /// Of the nominal deceleration.
+    pub kr: u32,
+    /// Of the target speed.
+    pub cr: u32,
+    /// Of the speed above VC, in thousandths for each km/h.
+    pub nc: i32,
+    /// VC in km/h.
+    pub vc: u32,
+    /// Of the slope.
+    pub inertia: Inertia,
+}
+
 /// A train. The first two are yes or no: 0 is no, any other byte is yes.
 #[repr(C)]
 #[derive(Clone, Copy, Debug, PartialEq, Eq)]
@@ -15,6 +51,8 @@ pub struct Train {
     pub length: u32,
     /// km/h.
     pub top_speed: u32,
+    /// Its own.
+    pub coefficients: Coefficients,
 }
 
 /// The four distances in millimetres.
@@ -165,12 +203,13 @@ pub const CURVES: [Curve; 4] = [Curve::Ebi, Curve::Sbi, Curve::W, Curve::P];
 type Row = unsafe extern "C" fn(Train, u32, i32, *mut u32, usize) -> Written;
 
 extern "C" {
+    fn approach_first_values() -> Coefficients;
     fn approach_step(train: Train, v: u32, v0: u32, gradient: i32) -> Distances;
     fn approach_row_ebi(train: Train, v0: u32, gradient: i32, row: *mut u32, places: usize) -> Written;
     fn approach_row_sbi(train: Train, v0: u32, gradient: i32, row: *mut u32, places: usize) -> Written;
     fn approach_row_w(train: Train, v0: u32, gradient: i32, row: *mut u32, places: usize) -> Written;
     fn approach_row_p(train: Train, v0: u32, gradient: i32, row: *mut u32, places: usize) -> Written;
-    fn approach_ramp(braked_weight: u32, gradient: i32, v: u32, tm: u32, tr: u32) -> Stop;
+    fn approach_ramp(braked_weight: u32, gradient: i32, v: u32, tm: u32, tr: u32, inertia: Inertia) -> Stop;
     fn approach_ceilings(permitted: u32) -> Limits;
     fn approach_ceilings_stored(permitted: u32) -> Limits;
     fn approach_sheet_write(
@@ -200,6 +239,11 @@ extern "C" {
     ) -> Answer;
 }
 
+/// Document 002's first values.
+pub fn first_values() -> Coefficients {
+    unsafe { approach_first_values() }
+}
+
 /// Distances from V to V0, in km/h, on a gradient in per mille.
 pub fn step(train: Train, v: u32, v0: u32, gradient: i32) -> Distances {
     unsafe { approach_step(train, v, v0, gradient) }
@@ -217,8 +261,8 @@ pub fn row(curve: Curve, train: Train, v0: u32, gradient: i32, row: &mut [u32]) 
 }
 
 /// The way past a closed signal from V in km/h; TM and TR in hundredths of a second.
-pub fn ramp(braked_weight: u32, gradient: i32, v: u32, tm: u32, tr: u32) -> Stop {
-    unsafe { approach_ramp(braked_weight, gradient, v, tm, tr) }
+pub fn ramp(braked_weight: u32, gradient: i32, v: u32, tm: u32, tr: u32, inertia: Inertia) -> Stop {
+    unsafe { approach_ramp(braked_weight, gradient, v, tm, tr, inertia) }
 }
 
 /// The ceilings of a permitted speed in km/h, worked out.

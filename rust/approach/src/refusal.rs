@@ -1,9 +1,10 @@
-//! Why a call is turned down: document 01, "What is turned away".
+//! Why a call is turned down: document 01, "What is turned away", with document 02's Card 5.
 use std::error::Error;
 use std::fmt;
 
-/// What was turned away, in the words of the header's constants: of all that applies, the lowest number.
-#[derive(Clone, Copy, PartialEq, Eq, PartialOrd, Ord, Hash)]
+/// What was turned away, in the words of the header's constants: of all that applies, the first in the order of
+/// [`Refusal::DECIDED`].
+#[derive(Clone, Copy, PartialEq, Eq, Hash)]
 #[repr(u32)]
 pub enum Refusal {
     /// A braked weight percentage that is not one of 45 to 160 in steps of 5.
@@ -24,17 +25,18 @@ pub enum Refusal {
     Number = 8,
     /// A head beyond the signal.
     Head = 9,
-    /// A brake that on its gradient decelerates by less than 0.05 m/s², in a model consulted. It counts least at the target
-    /// speed, and there a row and a query decide (a query's target is its release speed): a single distance from a higher
-    /// speed may be accepted.
+    /// A brake that on its gradient decelerates by less than 0.05 m/s², in a model consulted. A row is refused if any of its
+    /// speeds is too weak, a query if its release speed is: a too weak speed above it ends the climb to the permitted one.
     WeakBrake = 10,
     /// A list or buffer too short for the output.
     Room = 11,
+    /// A coefficient outside its span or step: those are [`Coefficients`](crate::Coefficients)'.
+    Coefficient = 12,
 }
 
 impl Refusal {
-    /// All of them, by number.
-    pub const ALL: [Refusal; 11] = [
+    /// All of them, by number. That is not the order in which they are decided: see [`Refusal::DECIDED`].
+    pub const ALL: [Refusal; 12] = [
         Refusal::BrakedWeight,
         Refusal::Length,
         Refusal::Speed,
@@ -46,9 +48,26 @@ impl Refusal {
         Refusal::Head,
         Refusal::WeakBrake,
         Refusal::Room,
+        Refusal::Coefficient,
     ];
 
-    /// Its number in document 01.
+    /// All of them, in the order in which they are decided: the one of a coefficient comes before that of the sheet.
+    pub const DECIDED: [Refusal; 12] = [
+        Refusal::BrakedWeight,
+        Refusal::Length,
+        Refusal::Speed,
+        Refusal::Target,
+        Refusal::Gradient,
+        Refusal::Times,
+        Refusal::Coefficient,
+        Refusal::Sheet,
+        Refusal::Number,
+        Refusal::Head,
+        Refusal::WeakBrake,
+        Refusal::Room,
+    ];
+
+    /// Its number in documents 01 and 02.
     pub fn number(self) -> u32 {
         self as u32
     }
@@ -74,6 +93,7 @@ impl Refusal {
             Refusal::Head => "the head is beyond the signal",
             Refusal::WeakBrake => "the brake is too weak on this gradient: with the slope it gives less than 0.05 m/s²",
             Refusal::Room => "the list or buffer is too short for the output",
+            Refusal::Coefficient => "a coefficient is outside its span or step",
         }
     }
 }
@@ -97,6 +117,6 @@ impl Error for Refusal {}
 pub(crate) fn accepted<A>(number: u32, answer: A) -> Result<A, Refusal> {
     match number {
         0 => Ok(answer),
-        _ => Err(Refusal::numbered(number).expect("a number of document 01's table")),
+        _ => Err(Refusal::numbered(number).expect("a number of document 01's table, or of document 02's")),
     }
 }

@@ -1,19 +1,23 @@
 //! Whether a train is freight, and whether its electropneumatic brake works, is a byte in C's record, and C can pass any: 0 is no,
 //! each of the other 255 is yes.
 use approach::raw::{query, row, step, Distances, Train, CURVES};
+use approach::Coefficients;
 use inputs::EXAMPLE;
+use reference::coefficients::FIRST_VALUES;
 
 /// A train of either length, by its two bytes. Freight tells at 500 m, and a freight train's electropneumatic brake at 1,000 m.
 fn train(freight: u8, electropneumatic: u8, length: u32) -> Train {
-    Train { freight, electropneumatic, braked_weight: 100, length, top_speed: 100 }
+    let coefficients = Coefficients::FIRST_VALUES.into();
+    Train { freight, electropneumatic, braked_weight: 100, length, top_speed: 100, coefficients }
 }
 
 /// The reference's four distances of either answer to the two questions, at `[freight][electropneumatic]`.
 fn on_paper(length: u32) -> [[Distances; 2]; 2] {
     [false, true].map(|freight| {
         [false, true].map(|electropneumatic| {
+            let (braked_weight, top_speed, coefficients) = (100, 100, FIRST_VALUES);
             let train =
-                reference::train::Train { freight, electropneumatic, braked_weight: 100, length, top_speed: 100 };
+                reference::train::Train { freight, electropneumatic, braked_weight, length, top_speed, coefficients };
             let [ebi, sbi, w, p] = reference::step::step(train, 90, 0, 0).expect("an accepted train");
             Distances { refusal: 0, ebi, sbi, w, p }
         })

@@ -1,7 +1,8 @@
 //! The climbs at every edge: queries, ramp answers and distances that a millimetre or a millisecond decides, or less. The
 //! reference finds the inputs, and each kind of them is counted, so that no test passes by finding none.
-use approach::{raw, Approach, Brake, Kmh, Mark, Metre, Train};
+use approach::{raw, Approach, Brake, Inertia, Kmh, Mark, Metre, Train};
 use inputs::{on_paper, Line, Query, Random, EXAMPLE_TRAIN};
+use reference::coefficients::FIRST_VALUES;
 use reference::fraction::Fraction;
 use reference::ramp::{keeps_promise, motion, ramp, Phase, Stop};
 use reference::step::{exact, exact_p, row, step, Curve};
@@ -12,6 +13,8 @@ use std::fmt::Debug;
 const TOP: u32 = 330;
 /// Where the one signal stands, farther on than any P distance is long.
 const PLACE: u32 = 200_000;
+/// The reference's first values of what the ramp takes.
+const INERTIA: reference::coefficients::Inertia = FIRST_VALUES.inertia;
 
 /// How often each kind was found.
 struct Found<K>(BTreeMap<K, u32>);
@@ -150,7 +153,7 @@ fn decimal(number: Fraction) -> f64 {
 /// floating point sees it.
 fn nearly_whole(train: Train, gradient: i32) -> Vec<(u32, u32)> {
     let paper = on_paper(train);
-    let (t, di) = (1.0 + decimal(paper.tf()), decimal(di(gradient)));
+    let (t, di) = (1.0 + decimal(paper.tf()), decimal(di(gradient, INERTIA)));
     let deceleration = 0.57 * decimal(paper.dr()) + di;
     let near = |v: u32| {
         let speed = f64::from(v) / 3.6;
@@ -169,7 +172,8 @@ fn p_distances_a_micrometre_from_the_signal() {
     for (freight, braked_weight) in [false, true].into_iter().flat_map(|f| weights().map(move |w| (f, w))) {
         let brake = if freight { Brake::Freight } else { Brake::Passenger };
         for (gradient, length) in (-35..=35).flat_map(|i| (0..=1000).step_by(27).map(move |l| (i, Metre(l)))) {
-            let train = Train { brake, electropneumatic: false, braked_weight, length, top_speed: Kmh(TOP) };
+            let top_speed = Kmh(TOP);
+            let train = Train { brake, electropneumatic: false, braked_weight, length, top_speed, ..EXAMPLE_TRAIN };
             for (v, metres) in nearly_whole(train, gradient) {
                 let q = Query { train, tm: 200, tr: 400, sheet: sheet(gradient, 0, 0), signal: 0, head: PLACE };
                 let p = exact_p(on_paper(train), v, 0, gradient).expect("an accepted step");
@@ -206,11 +210,11 @@ impl Ramp {
     }
 
     fn on_paper(self) -> Result<Stop, u32> {
-        ramp(self.weight, self.gradient, self.v, self.tm, self.tr)
+        ramp(self.weight, self.gradient, self.v, self.tm, self.tr, INERTIA)
     }
 
     fn phase(self) -> Option<Phase> {
-        Some(motion(self.weight, self.gradient, self.v, self.tm, self.tr).ok()?.stops_in())
+        Some(motion(self.weight, self.gradient, self.v, self.tm, self.tr, INERTIA).ok()?.stops_in())
     }
 
     /// Where the brake has its full force, in milliseconds.
@@ -222,15 +226,16 @@ impl Ramp {
     fn stop(self) -> Stop {
         let Ramp { weight, gradient, v, tm, tr } = self;
         let Stop { distance, moment } = self.on_paper().expect("accepted inputs");
-        assert_eq!(raw::ramp(weight, gradient, v, tm, tr), raw::Stop { refusal: 0, distance, moment }, "{self:?}");
-        assert!(keeps_promise(weight, gradient, v, tm, tr, distance, moment), "the promise: {self:?}");
+        let answer = raw::ramp(weight, gradient, v, tm, tr, Inertia::FIRST_VALUES.into());
+        assert_eq!(answer, raw::Stop { refusal: 0, distance, moment }, "{self:?}");
+        assert!(keeps_promise(weight, gradient, v, tm, tr, distance, moment, INERTIA), "the promise: {self:?}");
         Stop { distance, moment }
     }
 
     /// Spares the reference most of the stops after TM that are not a hair from whole metres: the answer is more than 1 mm,
     /// and hardly more than 2, over the place of the stop.
     fn perhaps_a_hair(self) -> bool {
-        let (di, dp) = (decimal(di(self.gradient)), 0.9 * decimal(dr(self.weight)));
+        let (di, dp) = (decimal(di(self.gradient, INERTIA)), 0.9 * decimal(dr(self.weight)));
         let (v, tm, tr) = (f64::from(self.v) / 3.6, f64::from(self.tm) / 100.0, f64::from(self.tr) / 100.0);
         let v1 = v - di * tm;
         let risen = ((di * di + 2.0 * dp * v1 / tr).sqrt() - di) * tr / dp;
@@ -353,7 +358,7 @@ impl Brakes {
     fn all() -> impl Iterator<Item = Brakes> {
         let whole = |number: Fraction| (number * Fraction::from(1_000_000)).raised();
         let brakes = move |weight, gradient| {
-            let (di, dp) = (whole(di(gradient)), whole(Fraction::from((9, 10)) * dr(weight)));
+            let (di, dp) = (whole(di(gradient, INERTIA)), whole(Fraction::from((9, 10)) * dr(weight)));
             Brakes { weight, gradient, di, dp }
         };
         let all = weights().flat_map(move |weight| (-35..=35).map(move |gradient| brakes(weight, gradient)));
@@ -516,7 +521,7 @@ fn slow_and_long_on_falls() {
     let (mut accepted, mut longer) = (0, 0);
     for (braked_weight, gradient) in weights().flat_map(|weight| (-35..=-10).map(move |i| (weight, i))) {
         let (brake, electropneumatic, length) = (Brake::Freight, false, Metre(1000));
-        let train = Train { brake, electropneumatic, braked_weight, length, top_speed: Kmh(100) };
+        let train = Train { brake, electropneumatic, braked_weight, length, ..EXAMPLE_TRAIN };
         for v0 in 0..=8 {
             let answers = (v0..=12).filter_map(|v| check_step(train, v, v0, gradient)).collect::<Vec<_>>();
             accepted += answers.len();

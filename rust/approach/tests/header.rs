@@ -1,6 +1,6 @@
 //! What `include/approach.h` names for C, the wrapper names alike: nothing comes to one and is forgotten in the other,
 //! and all is in one order there and in the crates.
-use approach::{sheet, Mark, Refusal, LONGEST_ROW};
+use approach::{raw, sheet, Coefficients, Mark, Refusal, LONGEST_ROW};
 use std::collections::BTreeSet;
 use std::fs;
 
@@ -38,6 +38,7 @@ fn name(refusal: Refusal) -> &'static str {
         Refusal::Head => "HEAD",
         Refusal::WeakBrake => "WEAK_BRAKE",
         Refusal::Room => "ROOM",
+        Refusal::Coefficient => "COEFFICIENT",
     }
 }
 
@@ -84,9 +85,15 @@ fn nothing_required() {
     }
 }
 
-/// Where the crates' names are not C's: a field's is one word, and their `Train` is what C's record stands for.
-const NAMED_OTHERWISE: [(&str, &str); 3] =
-    [("Entered", "Train"), ("pub weight: ", "pub braked_weight: "), ("pub top: ", "pub top_speed: ")];
+/// Where the crates' names are not C's: a field's is one word, and their `Train`, `Coefficients` and `Inertia` are what C's records
+/// stand for.
+const NAMED_OTHERWISE: [(&str, &str); 5] = [
+    ("EnteredCoefficients", "Coefficients"),
+    ("EnteredInertia", "Inertia"),
+    ("Entered", "Train"),
+    ("pub weight: ", "pub braked_weight: "),
+    ("pub top: ", "pub top_speed: "),
+];
 
 /// A text without comments, nor attributes that change no order.
 fn bare(text: &str) -> String {
@@ -157,6 +164,7 @@ fn call_of_rust(text: &str, beginning: &str, call: &str) -> Vec<String> {
 fn call_of_c(header: &str, call: &str) -> Vec<String> {
     let (before, rest) = around(header, &format!(" {call}("));
     let (answer, (parameters, _)) = (before.lines().last().expect(call), rest.split_once(");").expect(call));
+    let parameters = if parameters == "void" { "" } else { parameters };
     listed(&format!("{answer} {call}, {parameters}"), ',').iter().map(|part| of_c(part)).collect()
 }
 
@@ -192,7 +200,7 @@ fn fields_in_order() {
     };
     let begun = |line| str::strip_prefix(line, "pub struct ")?.strip_suffix(" {");
     let structs: Vec<&str> = raw.lines().filter_map(begun).collect();
-    assert!(structs.len() >= 10, "{structs:?}");
+    assert!(structs.len() >= 12, "{structs:?}");
     for name in structs {
         let of_rust = format!("#[repr(C)]\npub struct {name}");
         let of_header = fields(&header, &format!("struct approach_{}", name.to_lowercase()), ';');
@@ -216,6 +224,16 @@ fn refusals() {
 fn marks() {
     let wanted = Mark::ALL.map(|mark| (mark.to_string().to_uppercase(), mark.number()));
     assert_eq!(constants("APPROACH_MARK_"), wanted);
+}
+
+/// The header's initialiser goes by the order of the fields, which is the wrapper's by the test above.
+#[test]
+fn initialiser() {
+    let value = HEADER.lines().find_map(|line| line.strip_prefix("#define APPROACH_FIRST_VALUES "));
+    let raw::Coefficients { dt, h, kr, cr, nc, vc, inertia } = Coefficients::FIRST_VALUES.into();
+    let raw::Inertia { ki1, ki2, ki3, i1, i2 } = inertia;
+    let wanted = format!("{{{dt}, {h}, {kr}, {cr}, {nc}, {vc}, {{{ki1}, {ki2}, {ki3}, {i1}, {i2}}}}}");
+    assert_eq!(value, Some(wanted.as_str()));
 }
 
 #[test]

@@ -1,38 +1,13 @@
 //! The library's distances, rows and ceilings against the reference, on accepted and refused inputs.
 use approach::{
-    ceilings, ceilings_stored, raw, row, step, Brake, Ceilings, Curve, Distances, Refusal, Train, CURVES, LONGEST_ROW,
+    ceilings, ceilings_stored, raw, row, Brake, Ceilings, Coefficients, Refusal, Train, CURVES, LONGEST_ROW,
 };
-use approach::{Kmh, Metre, Millimetre, PerMille};
-use inputs::{on_paper, Random};
-use reference::step::in_order;
+use approach::{Kmh, Metre, PerMille};
+use checked::{check, check_row, in_order_and_time, UNTOUCHED};
+use inputs::Random;
 
-/// What stands in lent memory before a call, and in as many places on either side of it.
-const UNTOUCHED: Millimetre = Millimetre(0xdead_beef);
-const GUARD: usize = 4;
-
-/// The answer as the reference gives it: four numbers, or the refusal's.
-fn numbers(answer: Result<Distances, Refusal>) -> Result<[u32; 4], u32> {
-    answer.map(|d| CURVES.map(|curve| d.of(curve).0)).map_err(Refusal::number)
-}
-
-/// From P to W and from W to SBI a train at V has 1.5 s, 1250 V / 3 mm, to less than the millimetre that each is raised by.
-fn in_time(v: u32, [_, sbi, w, p]: [u32; 4]) -> bool {
-    [(sbi, w), (w, p)].into_iter().all(|(near, far)| (3 * far).abs_diff(3 * near + 1250 * v) < 3)
-}
-
-/// Answers 0, or the number of the refusal, beside which there are zeros.
-fn check(t: Train, v: u32, v0: u32, gradient: i32) -> u32 {
-    let answer = numbers(step(t, Kmh(v), Kmh(v0), PerMille(gradient)));
-    if let Ok(distances) = answer {
-        assert!(in_order(&distances) && in_time(v, distances), "{t:?}, V {v}, V0 {v0}, i {gradient}: {distances:?}");
-    }
-    let expected = reference::step::step(on_paper(t), v, v0, gradient);
-    assert_eq!(answer, expected, "{t:?}, V {v}, V0 {v0}, i {gradient}");
-    let Err(refusal) = answer else { return 0 };
-    let zeros = raw::Distances { refusal, ebi: 0, sbi: 0, w: 0, p: 0 };
-    assert_eq!(raw::step(t.into(), v, v0, gradient), zeros, "{t:?}, V {v}, V0 {v0}, i {gradient}");
-    refusal
-}
+#[path = "checked/step.rs"]
+mod checked;
 
 /// V, and mostly a V0 that is not above it.
 fn speeds(random: &mut Random) -> (u32, u32) {
@@ -63,8 +38,9 @@ fn distances_at_the_thresholds() {
         for braked_weight in [45, 50, 100, 155, 160] {
             for length in [0, 1, 200, 953, 954, 999, 1000] {
                 let brake = [Brake::Freight, Brake::Passenger][kind & 1];
+                let (electropneumatic, coefficients) = (kind & 2 == 0, Coefficients::FIRST_VALUES);
                 let (length, top_speed) = (Metre(length), Kmh(100));
-                let t = Train { brake, electropneumatic: kind & 2 == 0, braked_weight, length, top_speed };
+                let t = Train { brake, electropneumatic, braked_weight, length, top_speed, coefficients };
                 for gradient in [-35, -22, -21, -20, -19, -18, -17, -1, 0, 1, 10, 34, 35] {
                     for (v, v0) in [
                         (0, 0),
@@ -86,31 +62,6 @@ fn distances_at_the_thresholds() {
         }
     }
     assert!(accepted > 5000, "{accepted}");
-}
-
-/// A row between places that are not lent: written where the answer says, and nowhere else.
-fn check_row(curve: Curve, t: Train, v0: u32, gradient: i32, places: usize) -> u32 {
-    let mut memory = vec![UNTOUCHED; places + 2 * GUARD];
-    let answer = row(curve, t, Kmh(v0), PerMille(gradient), &mut memory[GUARD..GUARD + places]);
-    let answer = answer.map(<[Millimetre]>::to_vec).map_err(Refusal::number);
-    let paper_curve = match curve {
-        Curve::Ebi => reference::step::Curve::Ebi,
-        Curve::Sbi => reference::step::Curve::Sbi,
-        Curve::W => reference::step::Curve::W,
-        Curve::P => reference::step::Curve::P,
-    };
-    let expected = reference::step::row(paper_curve, on_paper(t), v0, gradient, places);
-    let expected = expected.map(|row| row.into_iter().map(Millimetre).collect::<Vec<_>>());
-    let mut after = vec![UNTOUCHED; places + 2 * GUARD];
-    if let Ok(row) = &expected {
-        after[GUARD..GUARD + row.len()].copy_from_slice(row);
-    }
-    assert_eq!(answer, expected, "{curve:?}, {t:?}, V0 {v0}, i {gradient}, {places} places");
-    assert_eq!(memory, after, "{curve:?}, {t:?}, V0 {v0}, i {gradient}, {places} places");
-    let Err(refusal) = answer else { return 0 };
-    let written = raw::row(curve, t.into(), v0, gradient, &mut vec![0; places]);
-    assert_eq!(written, raw::Written { refusal, length: 0 });
-    refusal
 }
 
 #[test]
@@ -155,10 +106,7 @@ fn rows_in_order() {
         for place in 0..ebi.len() {
             let distances = [ebi[place].0, sbi[place].0, w[place].0, p[place].0];
             let v = v0 + place as u32;
-            assert!(
-                in_order(&distances) && in_time(v, distances),
-                "{t:?}, V {v}, V0 {v0}, i {gradient}: {distances:?}"
-            );
+            assert!(in_order_and_time(v, distances), "{t:?}, V {v}, V0 {v0}, i {gradient}: {distances:?}");
         }
         accepted += 1;
         places += ebi.len();

@@ -6,7 +6,7 @@ use approach::{
 use inputs::{EXAMPLE, EXAMPLE_TRAIN};
 use std::collections::BTreeSet;
 
-/// Document 01's table has the numbers 1 to 11.
+/// Document 01's table has the numbers 1 to 11, and document 02's Card 5 adds one.
 #[test]
 fn refusals_by_number() {
     for (number, refusal) in (1..).zip(Refusal::ALL) {
@@ -14,9 +14,16 @@ fn refusals_by_number() {
         assert_eq!(Refusal::numbered(number), Some(refusal));
         assert!(refusal.to_string().ends_with(&format!(" (refusal {number})")), "{refusal}");
     }
-    assert_eq!([0, 12, u32::MAX].map(Refusal::numbered), [None; 3]);
+    assert_eq!([0, 13, u32::MAX].map(Refusal::numbered), [None; 3]);
     let texts: BTreeSet<&str> = Refusal::ALL.into_iter().map(Refusal::text).collect();
-    assert_eq!(texts.len(), 11);
+    assert_eq!(texts.len(), 12);
+}
+
+/// Card 5's is decided between 6 and 7.
+#[test]
+fn refusals_as_decided() {
+    let numbers = Refusal::DECIDED.map(Refusal::number);
+    assert_eq!(numbers, [1, 2, 3, 4, 5, 6, 12, 7, 8, 9, 10, 11]);
 }
 
 /// A `main` that hands a refusal back prints "Error: " and its `{:?}`.

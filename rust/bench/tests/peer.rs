@@ -1,17 +1,30 @@
 //! The peers, with which the library's times are compared, against the reference: they must not be fast by being wrong.
 use approach::raw::{Answer, Distances, Limits, Signal, Stop, CURVES};
-use approach::Kmh;
+use approach::{Coefficients, Kmh, Train};
 use bench::plain::sheet;
 use bench::{own, plain};
-use inputs::{on_paper, Random};
+use inputs::{inertia_on_paper, on_paper, Query, Random};
 use reference::step::Curve;
+
+/// The first values in every other round, as in the benchmark.
+fn coefficients(random: &mut Random, round: usize) -> Coefficients {
+    if round % 2 == 0 {
+        Coefficients::FIRST_VALUES
+    } else {
+        random.any_coefficients()
+    }
+}
+
+fn any_train(random: &mut Random, round: usize) -> Train {
+    Train { coefficients: coefficients(random, round), ..random.train() }
+}
 
 #[test]
 fn distances() {
     let mut random = Random(91);
     let mut accepted = 0;
-    for _ in 0..60_000 {
-        let (train, gradient, v) = (random.train(), random.gradient(), random.near(0, 330));
+    for round in 0..60_000 {
+        let (train, gradient, v) = (any_train(&mut random, round), random.gradient(), random.near(0, 330));
         let v0 = random.below(u64::from(v) + 1) as u32;
         let Ok([ebi, sbi, w, p]) = reference::step::step(on_paper(train), v, v0, gradient) else { continue };
         let distances = Distances { refusal: 0, ebi, sbi, w, p };
@@ -28,8 +41,8 @@ fn rows() {
     let mut random = Random(95);
     let mut accepted = 0;
     for round in 0..600 {
-        let (train, gradient, v0) = (random.train(), random.gradient(), random.below(100) as u32);
-        let (curve, on_curve) = [(Curve::Ebi, CURVES[0]), (Curve::P, CURVES[3])][round % 2];
+        let (train, gradient, v0) = (any_train(&mut random, round), random.gradient(), random.below(100) as u32);
+        let (curve, on_curve) = [(Curve::Ebi, CURVES[0]), (Curve::P, CURVES[3])][round / 2 % 2];
         let Ok(expected) = reference::step::row(curve, on_paper(train), v0, gradient, 331) else { continue };
         for fill in [plain::step::row, own::step::row] {
             let mut row = vec![0; expected.len()];
@@ -45,13 +58,16 @@ fn rows() {
 fn ramp_answers() {
     let mut random = Random(92);
     let mut accepted = 0;
-    for _ in 0..30_000 {
+    for round in 0..30_000 {
         let (weight, gradient) = (random.braked_weight(), random.gradient());
         let (v, tm, tr) = (random.near(1, 100), random.near(0, 2000), random.near(1, 3000));
-        let Ok(stop) = reference::ramp::ramp(weight, gradient, v, tm, tr) else { continue };
+        let inertia = coefficients(&mut random, round).inertia;
+        let on_paper = inertia_on_paper(inertia);
+        let Ok(stop) = reference::ramp::ramp(weight, gradient, v, tm, tr, on_paper) else { continue };
         let expected = Stop { refusal: 0, distance: stop.distance, moment: stop.moment };
         for ramp in [plain::ramp::ramp, own::ramp::ramp] {
-            assert_eq!(ramp(weight, gradient, v, tm, tr), expected, "BW {weight}, i {gradient}, V {v}, {tm}, {tr}");
+            let answer = ramp(weight, gradient, v, tm, tr, inertia.into());
+            assert_eq!(answer, expected, "BW {weight}, i {gradient}, V {v}, {tm}, {tr}, {inertia:?}");
         }
         accepted += 1;
     }
@@ -98,30 +114,44 @@ fn sheets() {
     assert!([0, 7, 8].iter().all(|&refusal| seen[refusal] > 500), "{seen:?}");
 }
 
-/// Train and times are accepted: the rest is the peers' to judge.
+/// The answer of both peers, which is the reference's. Of train, coefficients and times they do not judge.
+fn both(q: &Query) -> Option<Answer> {
+    let Query { train, tm, tr, sheet, signal, head } = q;
+    let expected = match reference::approach::approach(on_paper(*train), *tm, *tr, sheet, *signal, *head) {
+        Ok(reference::approach::Answer { release, permitted, mark, ceilings: [w, sbi, ebi] }) => {
+            Answer { refusal: 0, release, permitted, mark: mark as u32, w, sbi, ebi }
+        }
+        Err(1..=6 | 12) => return None,
+        Err(refusal) => Answer { refusal, release: 0, permitted: 0, mark: 0, w: 0, sbi: 0, ebi: 0 },
+    };
+    for query in [plain::query::query, own::query::query] {
+        assert_eq!(query((*train).into(), *tm, *tr, sheet, *signal, *head), expected, "{q:?}");
+    }
+    Some(expected)
+}
+
 #[test]
 fn queries() {
     let mut random = Random(94);
     let mut seen = [0; 12];
-    for _ in 0..3_000 {
+    for round in 0..4_000 {
         let line = random.short_line();
         let signal = random.below(line.places.len() as u64 + 1) as u32;
         let head = random.below_any(&[1, line.end]);
         let (tm, tr) = (random.below(2001) as u32, 1 + random.below(3000) as u32);
-        let (mut train, sheet) = (random.train(), line.written());
+        let (mut train, sheet) = (any_train(&mut random, round), line.written());
         train.top_speed = Kmh(1 + random.below(330) as u32);
-        let expected = match reference::approach::approach(on_paper(train), tm, tr, &sheet, signal, head) {
-            Ok(reference::approach::Answer { release, permitted, mark, ceilings: [w, sbi, ebi] }) => {
-                Answer { refusal: 0, release, permitted, mark: mark as u32, w, sbi, ebi }
-            }
-            Err(1..=6) => continue,
-            Err(refusal) => Answer { refusal, release: 0, permitted: 0, mark: 0, w: 0, sbi: 0, ebi: 0 },
-        };
-        for query in [plain::query::query, own::query::query] {
-            let answer = query(train.into(), tm, tr, &sheet, signal, head);
-            assert_eq!(answer, expected, "{train:?}, TM {tm}, TR {tr}, {line:?}, signal {signal}, head {head}");
-        }
-        seen[expected.refusal as usize] += 1;
+        let Some(answer) = both(&Query { train, tm, tr, sheet, signal, head }) else { continue };
+        seen[answer.refusal as usize] += 1;
     }
     assert!([0, 8, 9, 10].iter().all(|&refusal| seen[refusal] > 50), "{seen:?}");
+}
+
+/// Climbs that mostly end for lack of brake.
+#[test]
+fn far_queries() {
+    let mut random = Random(96);
+    let answers = (0..500).filter_map(|_| both(&random.far_query()));
+    let ended = answers.filter(|answer| answer.refusal == 0 && answer.permitted < 330).count();
+    assert!(ended > 200, "{ended}");
 }

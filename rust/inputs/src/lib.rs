@@ -1,6 +1,10 @@
-//! Inputs for tests and benchmarks, the same in every run: trains, lines and queries, mostly such as are accepted.
+//! Inputs for tests and benchmarks, the same in every run: trains, lines and queries, mostly such as are accepted. A train has the
+//! first values, where it is not asked for with coefficients of its own.
+mod coefficients;
+
 use approach::sheet::{self, write, Lists};
-use approach::{query, Approach, Brake, Hundredth, Kmh, Metre, Refusal, Times, Train};
+use approach::{query, Approach, Brake, Coefficients, Hundredth, Kmh, Metre, Refusal, Times, Train};
+pub use coefficients::{in_the_ramp, inertia_on_paper, on_paper, Span, SPANS};
 use std::collections::BTreeSet;
 
 /// Document 01's example of a sheet, and the train of the program that prints it.
@@ -14,13 +18,8 @@ pub const EXAMPLE_TRAIN: Train = Train {
     braked_weight: 100,
     length: Metre(200),
     top_speed: Kmh(100),
+    coefficients: Coefficients::FIRST_VALUES,
 };
-
-/// The same train for the reference.
-pub fn on_paper(train: Train) -> reference::train::Train {
-    let Train { brake, electropneumatic, braked_weight, length: Metre(length), top_speed: Kmh(top_speed) } = train;
-    reference::train::Train { freight: brake == Brake::Freight, electropneumatic, braked_weight, length, top_speed }
-}
 
 /// TM and TR in hundredths of a second.
 pub fn times(tm: u32, tr: u32) -> Times {
@@ -136,6 +135,7 @@ impl Random {
             braked_weight: self.braked_weight(),
             length: Metre(self.near(0, 1000)),
             top_speed: Kmh(self.near(1, 330)),
+            coefficients: Coefficients::FIRST_VALUES,
         }
     }
 

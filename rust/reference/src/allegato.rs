@@ -1,5 +1,6 @@
 //! The stopping distances that document 000 prints in its Allegato 1, and the cells that are misprinted there.
 
+use crate::coefficients::FIRST_VALUES;
 use crate::fraction::Fraction;
 use crate::ramp::Motion;
 use crate::train::Train;
@@ -116,7 +117,8 @@ impl Cell {
     /// Section 5.2.3: TR = 2 × (tf - TM) in seconds, tf being document 002's delay before its safety coefficient.
     pub fn rise_time(self) -> Fraction {
         let Cell { freight_brake: freight, length, braked_weight, v: top_speed, .. } = self;
-        let train = Train { freight, electropneumatic: false, braked_weight, length, top_speed };
+        let coefficients = FIRST_VALUES;
+        let train = Train { freight, electropneumatic: false, braked_weight, length, top_speed, coefficients };
         Fraction::from(2) * (train.delay() - dead_time())
     }
 
@@ -134,6 +136,6 @@ impl Cell {
 
     /// The motion that the cell was worked out with, its rise time unrounded, or refusal 10.
     pub fn motion(self) -> Result<Motion, u32> {
-        Motion::new(self.braked_weight, self.gradient, self.v, dead_time(), self.rise_time())
+        Motion::new(self.braked_weight, self.gradient, self.v, dead_time(), self.rise_time(), FIRST_VALUES.inertia)
     }
 }

@@ -1,7 +1,8 @@
 //! The approach query: how fast a train may creep past a closed signal, and how fast it may come up to it (document 01,
-//! "Approach", with document 02's Card 2), and the desk's third demand held against any answer.
+//! "Approach", with document 02's Cards 2 and 5), and the desk's third demand held against any answer.
 
 use crate::ceilings::ceilings;
+use crate::coefficients::FIRST_VALUES;
 use crate::fraction::Fraction;
 use crate::ramp::{greatest_place, ramp, ALLOWANCE, DEAD_TIMES, RISE_TIMES, SPEEDS};
 use crate::sheet::{self, least};
@@ -44,9 +45,11 @@ pub enum Fault {
     Mark,
     /// The permitted speed is not the release speed under mark "release", or is outside its span under mark "curve".
     Permitted,
+    /// This speed, over the release speed and not over the permitted speed, is too weak to have a P distance.
+    Weak(u32),
     /// The P distance of this speed, not over the permitted speed, is over the distance to the signal.
     Unfit(u32),
-    /// One km/h more than the permitted speed fits too.
+    /// One km/h more than the permitted speed is strong enough and fits too.
     Slow,
 }
 
@@ -73,7 +76,8 @@ fn tail(train: Train, head: u32) -> u32 {
     head.saturating_sub(train.length)
 }
 
-/// Refusals 1, 2, 3, 6, 7, 8 and 9, the lowest first.
+/// Refusals 1, 2, 3, 6, 12, 7, 8 and 9, in this order: Card 5 decides 12 between 6 and 7, by every coefficient of the
+/// train, whether a model consults it or not.
 ///
 /// The gradient ahead is over the points from the tail to the signal, both included. That of the overlap is over those
 /// from the tail of a train whose head is at the signal up to but not including the overlap's end.
@@ -85,6 +89,7 @@ fn site(train: Train, tm: u32, tr: u32, bytes: &[u8], number: u32, head: u32) ->
     if !DEAD_TIMES.contains(&tm) || !RISE_TIMES.contains(&tr) {
         return Err(6);
     }
+    train.coefficients.check()?;
     let sheet = sheet::read(bytes).ok_or(7u32)?;
     let signal = sheet.signals.get(number as usize).ok_or(8u32)?;
     let (place, overlap) = (signal.place, u32::from(signal.overlap));
@@ -123,19 +128,25 @@ fn release_speed(train: Train, tm: u32, tr: u32, site: &Site) -> Result<u32, u32
     let Some(gradient) = site.past else {
         return Ok(0);
     };
-    let fits = |v| Ok(ramp(train.braked_weight, gradient, v, tm, tr)?.distance <= site.overlap);
+    let inertia = train.coefficients.inertia;
+    let fits = |v| Ok(ramp(train.braked_weight, gradient, v, tm, tr, inertia)?.distance <= site.overlap);
     Ok(climb(creeps(train), fits)?.unwrap_or(0))
 }
 
-/// Document 01, "Approach", with Card 2: TM and TR in hundredths of a second, head in metres, or the refusal's number.
+/// Document 01, "Approach", with Cards 2 and 5: TM and TR in hundredths of a second, head in metres, or the number
+/// of a refusal.
 ///
 /// The P distances are the raised ones. They fit exactly where the exact ones do: the distance to the signal is a whole
 /// number of millimetres, and such a number is not below the raised one just when it is not below the exact one.
-/// Refusal 10 of the step model comes from the climb's first speed, V0, or not at all.
+/// Refusal 10 of the step model comes from the climb's first speed, V0, or not at all: by Card 5 a higher speed that is
+/// too weak is one that does not fit.
 pub fn approach(train: Train, tm: u32, tr: u32, sheet: &[u8], signal: u32, head: u32) -> Result<Answer, u32> {
     let site = site(train, tm, tr, sheet, signal, head)?;
     let release = release_speed(train, tm, tr, &site)?;
-    let fits = |v| Ok(step(train, v, release, site.ahead)?[Curve::P as usize] <= site.distance);
+    let fits = |v| match step(train, v, release, site.ahead) {
+        Err(10) if v > release => Ok(false),
+        distances => Ok(distances?[Curve::P as usize] <= site.distance),
+    };
     let (permitted, mark) = match climb(release..=train.top_speed, fits)? {
         Some(last) => (last, Mark::Curve),
         None => (release, Mark::Release),
@@ -153,15 +164,16 @@ fn keeps_overlap(train: Train, tm: u32, tr: u32, site: &Site, release: u32) -> R
     if release > fastest {
         return Err(Fault::TooFast);
     }
+    let most = |v| greatest_place(train.braked_weight, gradient, v, tm, tr, train.coefficients.inertia);
     let end = Fraction::from(site.overlap);
     for v in 1..=release {
-        let (_, most) = greatest_place(train.braked_weight, gradient, v, tm, tr)?;
-        if in_millimetres(&most) > end {
+        let (_, upper) = most(v)?;
+        if in_millimetres(&upper) > end {
             return Err(Fault::Beyond(v));
         }
     }
     if release < fastest {
-        let (reached, _) = greatest_place(train.braked_weight, gradient, release + 1, tm, tr)?;
+        let (reached, _) = most(release + 1)?;
         if in_millimetres(&reached) + Fraction::from(ALLOWANCE) <= end {
             return Err(Fault::Short);
         }
@@ -169,12 +181,22 @@ fn keeps_overlap(train: Train, tm: u32, tr: u32, site: &Site, release: u32) -> R
     Ok(())
 }
 
-/// The third demand's sentences on the way to the signal.
+/// The third demand's sentences on the way to the signal, with Card 5's: each speed up to the permitted one is strong
+/// enough and fits, the next one is too weak or does not.
 fn keeps_distance(train: Train, site: &Site, answer: Answer) -> Result<(), Fault> {
     let Answer { release, permitted, mark, .. } = answer;
     let distance = Fraction::from(site.distance);
-    let fits = |v| Ok::<bool, Fault>(exact_p(train, v, release, site.ahead)? <= distance);
-    let (wanted, highest) = if fits(release)? { (Mark::Curve, train.top_speed) } else { (Mark::Release, release) };
+    let fits = |v| match exact_p(train, v, release, site.ahead) {
+        Err(10) if v > release => Err(Fault::Weak(v)),
+        Err(refusal) => Err(Fault::Refused(refusal)),
+        Ok(p) if p > distance => Err(Fault::Unfit(v)),
+        Ok(_) => Ok(()),
+    };
+    let (wanted, highest) = match fits(release) {
+        Ok(()) => (Mark::Curve, train.top_speed),
+        Err(Fault::Unfit(_)) => (Mark::Release, release),
+        Err(refused) => return Err(refused),
+    };
     if mark != wanted {
         return Err(Fault::Mark);
     }
@@ -184,12 +206,8 @@ fn keeps_distance(train: Train, site: &Site, answer: Answer) -> Result<(), Fault
     if mark == Mark::Release {
         return Ok(());
     }
-    for v in release..=permitted {
-        if !fits(v)? {
-            return Err(Fault::Unfit(v));
-        }
-    }
-    if permitted < highest && fits(permitted + 1)? {
+    (release..=permitted).try_for_each(fits)?;
+    if permitted < highest && fits(permitted + 1).is_ok() {
         return Err(Fault::Slow);
     }
     Ok(())
@@ -222,8 +240,14 @@ impl fmt::Display for Mark {
 }
 
 /// Document 01, "Figures to hold": the train, TM, TR and head of the printing program.
-const PRINTED_TRAIN: Train =
-    Train { freight: false, electropneumatic: true, braked_weight: 100, length: 200, top_speed: 100 };
+const PRINTED_TRAIN: Train = Train {
+    freight: false,
+    electropneumatic: true,
+    braked_weight: 100,
+    length: 200,
+    top_speed: 100,
+    coefficients: FIRST_VALUES,
+};
 const PRINTED_TM: u32 = 200;
 const PRINTED_TR: u32 = 400;
 const PRINTED_HEAD: u32 = 0;

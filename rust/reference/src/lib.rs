@@ -2,12 +2,14 @@
 //! TC.PATC ST CM 01 M11 (document 000), in exact fractions.
 //!
 //! It follows the printed formulas line by line and in their own units, slowly and without any rounding but the last,
-//! so that other figures can be held against it. Document 01's line sheet stands beside them, its approach query on
+//! so that other figures can be held against it. The coefficients are document 002's first values or, by document 02's
+//! Card 5, the train's own. Document 01's line sheet stands beside them, its approach query on
 //! top, and tables of them all over that.
 
 pub mod allegato;
 pub mod approach;
 pub mod ceilings;
+pub mod coefficients;
 pub mod fraction;
 pub mod natural;
 pub mod ramp;

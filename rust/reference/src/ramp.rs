@@ -1,5 +1,6 @@
 //! The ramp model: the motion after the emergency brake is called for, and where it ends (document 000, section 5).
 
+use crate::coefficients::Inertia;
 use crate::fraction::{Fraction, Printed};
 use crate::train::{check_braked_weight, check_gradient, di, dr, strong_enough};
 use crate::units::{in_millimetres, metres_per_second, millimetres};
@@ -55,9 +56,16 @@ impl Motion {
     /// BW in per cent, gradient in per mille, V in km/h, dead time and rise time in seconds, or refusal 10.
     ///
     /// The times are fractions because those of document 000's tables are not all whole hundredths.
-    pub fn new(braked_weight: u32, gradient: i32, v: u32, tm: Fraction, tr: Fraction) -> Result<Motion, u32> {
-        let motion =
-            Motion { v0: metres_per_second(v), di: di(gradient), dp: Fraction::from(K) * dr(braked_weight), tm, tr };
+    pub fn new(
+        braked_weight: u32,
+        gradient: i32,
+        v: u32,
+        tm: Fraction,
+        tr: Fraction,
+        inertia: Inertia,
+    ) -> Result<Motion, u32> {
+        let (di, dp) = (di(gradient, inertia), Fraction::from(K) * dr(braked_weight));
+        let motion = Motion { v0: metres_per_second(v), di, dp, tm, tr };
         strong_enough(&motion.dp + &motion.di)?;
         Ok(motion)
     }
@@ -194,8 +202,8 @@ fn milliseconds(count: u32) -> Fraction {
     Fraction::from((i64::from(count), MILLISECONDS))
 }
 
-/// The motion of inputs in document 01's units, or its refusals 1, 3, 5, 6 and 10, the lowest first.
-pub fn motion(braked_weight: u32, gradient: i32, v: u32, tm: u32, tr: u32) -> Result<Motion, u32> {
+/// The motion of inputs in document 01's units, or its refusals 1, 3, 5, 6, Card 5's 12, and 10, in this order.
+pub fn motion(braked_weight: u32, gradient: i32, v: u32, tm: u32, tr: u32, inertia: Inertia) -> Result<Motion, u32> {
     check_braked_weight(braked_weight)?;
     if !SPEEDS.contains(&v) {
         return Err(3);
@@ -204,16 +212,18 @@ pub fn motion(braked_weight: u32, gradient: i32, v: u32, tm: u32, tr: u32) -> Re
     if !DEAD_TIMES.contains(&tm) || !RISE_TIMES.contains(&tr) {
         return Err(6);
     }
+    inertia.check()?;
     let seconds = |hundredths| Fraction::from((i64::from(hundredths), HUNDREDTHS));
-    Motion::new(braked_weight, gradient, v, seconds(tm), seconds(tr))
+    Motion::new(braked_weight, gradient, v, seconds(tm), seconds(tr), inertia)
 }
 
-/// Document 01, "Ramp": BW in per cent, gradient in per mille, V in km/h, TM and TR in hundredths of a second.
+/// Document 01, "Ramp": BW in per cent, gradient in per mille, V in km/h, TM and TR in hundredths of a second; of the
+/// train's own coefficients these five alone (document 02, Card 5).
 ///
 /// The moment is the last whole millisecond at which the train does not roll back. The distance is the place there,
 /// raised to a whole millimetre, and one more: within that millisecond the place gains far less.
-pub fn ramp(braked_weight: u32, gradient: i32, v: u32, tm: u32, tr: u32) -> Result<Stop, u32> {
-    let motion = motion(braked_weight, gradient, v, tm, tr)?;
+pub fn ramp(braked_weight: u32, gradient: i32, v: u32, tm: u32, tr: u32, inertia: Inertia) -> Result<Stop, u32> {
+    let motion = motion(braked_weight, gradient, v, tm, tr, inertia)?;
     let moment = motion.last_moving();
     Ok(Stop { distance: millimetres(&motion.place(&milliseconds(moment))) + 1, moment })
 }
@@ -225,8 +235,9 @@ pub fn greatest_place(
     v: u32,
     tm: u32,
     tr: u32,
+    inertia: Inertia,
 ) -> Result<(Fraction, Fraction), u32> {
-    Ok(motion(braked_weight, gradient, v, tm, tr)?.greatest_place())
+    Ok(motion(braked_weight, gradient, v, tm, tr, inertia)?.greatest_place())
 }
 
 /// Document 02, Card 13: whether some moment finds the run at the second speed past a place that the run at the first,
@@ -243,16 +254,27 @@ pub fn goes_farther(
     faster: u32,
     tm: u32,
     tr: u32,
+    inertia: Inertia,
 ) -> Result<bool, u32> {
-    let (_, place) = greatest_place(braked_weight, gradient, slower, tm, tr)?;
-    let (reached, _) = greatest_place(braked_weight, gradient, faster, tm, tr)?;
+    let (_, place) = greatest_place(braked_weight, gradient, slower, tm, tr, inertia)?;
+    let (reached, _) = greatest_place(braked_weight, gradient, faster, tm, tr, inertia)?;
     Ok(reached > place)
 }
 
 /// Document 01's promise with Card 13's allowance: at no moment is the place beyond the distance (millimetres), and at
 /// the moment (milliseconds) it is more than the distance less the allowance. Refused inputs keep nothing.
-pub fn keeps_promise(braked_weight: u32, gradient: i32, v: u32, tm: u32, tr: u32, distance: u32, moment: u32) -> bool {
-    let Ok(motion) = motion(braked_weight, gradient, v, tm, tr) else {
+#[allow(clippy::too_many_arguments, reason = "the ramp's inputs and the two numbers of its answer, each by itself")]
+pub fn keeps_promise(
+    braked_weight: u32,
+    gradient: i32,
+    v: u32,
+    tm: u32,
+    tr: u32,
+    distance: u32,
+    moment: u32,
+    inertia: Inertia,
+) -> bool {
+    let Ok(motion) = motion(braked_weight, gradient, v, tm, tr, inertia) else {
         return false;
     };
     let (_, greatest) = motion.greatest_place();

@@ -3,12 +3,15 @@
 
 use crate::approach::{approach, Answer};
 use crate::ceilings::ceilings;
+use crate::coefficients::FIRST_VALUES;
 use crate::ramp::{ramp, Stop};
 use crate::sheet::{next, signal, stretch, write, Signal, Stretch};
 use crate::step::{row, step, Curve, CURVES};
 use crate::stored::{looked_up, stored};
 use crate::train::Train;
 use std::fmt::Display;
+
+mod own;
 
 /// Whether freight, and whether the electropneumatic brake works.
 const KINDS: [(bool, bool); 4] = [(false, true), (true, true), (false, false), (true, false)];
@@ -87,7 +90,7 @@ impl Lines {
     }
 
     fn train(&mut self, train: Train) -> &mut Lines {
-        let Train { freight, electropneumatic, braked_weight, length, top_speed } = train;
+        let Train { freight, electropneumatic, braked_weight, length, top_speed, .. } = train;
         self.fields([freight.into(), electropneumatic.into(), braked_weight, length, top_speed])
     }
 
@@ -101,7 +104,15 @@ impl Lines {
 }
 
 fn trains(braked_weight: u32, length: u32, top_speed: u32) -> [Train; 4] {
-    KINDS.map(|(freight, electropneumatic)| Train { freight, electropneumatic, braked_weight, length, top_speed })
+    let coefficients = FIRST_VALUES;
+    KINDS.map(|(freight, electropneumatic)| Train {
+        freight,
+        electropneumatic,
+        braked_weight,
+        length,
+        top_speed,
+        coefficients,
+    })
 }
 
 fn ceilings_table(lines: &mut Lines) {
@@ -142,14 +153,23 @@ fn step_table(lines: &mut Lines) {
     }
 }
 
-fn row_line(lines: &mut Lines, curve: Curve, train: Train, v0: u32, gradient: i32) {
-    let mut lent = [0; ROW_PLACES];
-    let written = row(curve, train, v0, gradient, ROW_PLACES).map(|row| {
+/// The refusal and the length, and a lent list of so many zeros after the row is written to it.
+fn lent_row(curve: Curve, train: Train, v0: u32, gradient: i32, places: usize) -> (Result<[i64; 1], u32>, Vec<u32>) {
+    let mut lent = vec![0; places];
+    let written = row(curve, train, v0, gradient, places).map(|row| {
         lent[..row.len()].copy_from_slice(&row);
         [row.len() as i64]
     });
+    (written, lent)
+}
+
+fn row_line(lines: &mut Lines, curve: Curve, train: Train, v0: u32, gradient: i32) {
+    let (written, lent) = lent_row(curve, train, v0, gradient, ROW_PLACES);
     lines.word("row").fields([curve as u32]).train(train).fields([v0]).fields([gradient]);
-    lines.word(" =").answer(written).fields(lent).word("\n");
+    lines.word(" =").answer(written).fields(lent).word(
+        "
+",
+    );
 }
 
 fn row_table(lines: &mut Lines) {
@@ -166,7 +186,7 @@ fn row_table(lines: &mut Lines) {
 }
 
 fn ramp_line(lines: &mut Lines, braked_weight: u32, gradient: i32, v: u32, (tm, tr): (u32, u32)) {
-    let stop = ramp(braked_weight, gradient, v, tm, tr);
+    let stop = ramp(braked_weight, gradient, v, tm, tr, FIRST_VALUES.inertia);
     let answer = stop.map(|Stop { distance, moment }| [distance, moment].map(i64::from));
     lines.word("ramp").fields([braked_weight]).fields([gradient]).fields([v, tm, tr]);
     lines.word(" =").answer(answer).word("\n");
@@ -306,5 +326,9 @@ pub fn printed() -> String {
     sheet_table(&mut lines);
     query_table(&mut lines);
     tail_table(&mut lines);
+    own::step_table(&mut lines);
+    own::row_table(&mut lines);
+    own::ramp_table(&mut lines);
+    own::query_table(&mut lines);
     lines.0
 }

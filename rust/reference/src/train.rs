@@ -1,5 +1,6 @@
 //! The train and the slope: delay, slope deceleration and nominal deceleration (document 002, sections 6 and 7).
 
+use crate::coefficients::{Coefficients, Inertia};
 use crate::fraction::{Fraction, Printed};
 
 /// Section 6: the highest speed of the service regime, V_RE, in km/h.
@@ -14,9 +15,6 @@ const STEEPEST: u32 = 35;
 /// Document 01, refusal 10: the least deceleration in m/s² that a model is used with.
 const LEAST_DECELERATION: Printed = (5, 100);
 
-/// Section 7.1: the safety coefficient of the delay.
-const D_T: Printed = (130, 100);
-
 /// Section 7.1.1: a, b and c of the passenger row (V) and the freight row (M).
 const A_V: Printed = (350, 100);
 const B_V: Printed = (0, 100);
@@ -25,13 +23,8 @@ const A_M: Printed = (1350, 100);
 const B_M: Printed = (0, 100);
 const C_M: Printed = (4, 100);
 
-/// Section 7.2: gravity in m/s², the inertia coefficients and the two slopes, in per mille, that part them.
+/// Section 7.2: gravity in m/s².
 const G: Printed = (981, 100);
-const K_I1: Printed = (90, 100);
-const K_I2: Printed = (100, 100);
-const K_I3: Printed = (11, 10);
-const I_1: i32 = 0;
-const I_2: i32 = -21;
 
 /// Section 7.3.4: the nominal deceleration's factor of λ and its constant. C is 0, so speed does not change it.
 const A: Printed = (685, 100_000);
@@ -45,6 +38,7 @@ pub struct Train {
     pub braked_weight: u32,
     pub length: u32,
     pub top_speed: u32,
+    pub coefficients: Coefficients,
 }
 
 /// a + b × hundreds + c × hundreds², in seconds, with the length in hundreds of metres.
@@ -56,7 +50,7 @@ fn delay(a: Printed, b: Printed, c: Printed, length: u32) -> Fraction {
 }
 
 impl Train {
-    /// Document 01's refusals 1, 2 and 3 of the train itself, the lowest first.
+    /// Document 01's refusals 1, 2 and 3 of the train itself, the lowest first; its coefficients are judged later.
     pub fn check(self) -> Result<(), u32> {
         check_braked_weight(self.braked_weight)?;
         if self.length > LONGEST {
@@ -90,7 +84,7 @@ impl Train {
 
     /// Section 7.1: the time in seconds for which no brake force is assumed.
     pub fn tf(self) -> Fraction {
-        Fraction::from(D_T) * self.delay()
+        self.coefficients.d_t() * self.delay()
     }
 
     /// Section 7.3.4: the nominal deceleration in m/s².
@@ -130,13 +124,6 @@ pub fn dr(braked_weight: u32) -> Fraction {
 }
 
 /// Section 7.2: the deceleration in m/s² of a slope in per mille, positive uphill.
-pub fn di(gradient: i32) -> Fraction {
-    let inertia = if gradient > I_1 {
-        K_I1
-    } else if gradient > I_2 {
-        K_I2
-    } else {
-        K_I3
-    };
-    Fraction::from(inertia) * Fraction::from(G) * Fraction::from((i64::from(gradient), 1000))
+pub fn di(gradient: i32, inertia: Inertia) -> Fraction {
+    inertia.k_i(gradient) * Fraction::from(G) * Fraction::from((i64::from(gradient), 1000))
 }

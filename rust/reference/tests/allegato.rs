@@ -1,6 +1,7 @@
 //! Every cell of document 000's Allegato 1 against the exact ramp; the misprinted ones are named in src/allegato.rs.
 
 use reference::allegato::{cells, tables, Cell, DEAD_TIME, MISPRINTS};
+use reference::coefficients::FIRST_VALUES;
 use reference::fraction::Fraction;
 use reference::ramp::{greatest_place, ramp};
 
@@ -98,11 +99,13 @@ fn whole_hundredths_close_the_cells_in() {
         let Cell { braked_weight, gradient, v, .. } = cell;
         let (lowered, raised) = cell.rise_hundredths();
         whole += u32::from(lowered == raised);
-        let bounds = |tr| greatest_place(braked_weight, gradient, v, DEAD_TIME, tr).expect("accepted inputs");
+        let inertia = FIRST_VALUES.inertia;
+        let bounds = |tr| greatest_place(braked_weight, gradient, v, DEAD_TIME, tr, inertia).expect("accepted inputs");
         let (exact_lower, exact_upper) = cell.motion().expect("an accepted motion").greatest_place();
         assert!(bounds(lowered).0 <= exact_upper && exact_lower <= bounds(raised).1, "{cell:?}");
         if MISPRINTS.iter().all(|misprint| misprint.cell != cell) {
-            let answer = |tr| ramp(braked_weight, gradient, v, DEAD_TIME, tr).expect("accepted inputs").distance;
+            let stop = |tr| ramp(braked_weight, gradient, v, DEAD_TIME, tr, inertia).expect("accepted inputs");
+            let answer = |tr| stop(tr).distance;
             // The answer is beyond the exact place, by less than 2 mm.
             assert!(answer(lowered) < 1000 * cell.metres + 500 + 2, "{cell:?}");
             assert!(answer(raised) >= 1000 * cell.metres - 500, "{cell:?}");

@@ -4,6 +4,7 @@
 use numbers::Numbers;
 use reference::approach::{approach, keeps_demand, printed, Answer, Fault, Mark};
 use reference::ceilings::ceilings;
+use reference::coefficients::FIRST_VALUES;
 use reference::fraction::Fraction;
 use reference::ramp::{greatest_place, ramp};
 use reference::sheet::{self, keeps, least, Sheet, Signal, Stretch};
@@ -19,7 +20,14 @@ const EXAMPLE: &str = "01 00 02 00 14 00 00 00 1A 00 00 00 26 00 00 00 D0 07 00 
     00 00 00 00 00 00 00 00 00 00 78 00 21 04 00 00 00 00";
 
 /// The printing program's train.
-const EP: Train = Train { freight: false, electropneumatic: true, braked_weight: 100, length: 200, top_speed: 100 };
+const EP: Train = Train {
+    freight: false,
+    electropneumatic: true,
+    braked_weight: 100,
+    length: 200,
+    top_speed: 100,
+    coefficients: FIRST_VALUES,
+};
 const WEAK: Train = Train { braked_weight: 45, ..EP };
 
 /// Card 2: the shortest two, the card's own and the longest.
@@ -111,6 +119,7 @@ impl Numbers {
             braked_weight: 45 + 5 * self.below(24),
             length: self.below(1001),
             top_speed: 1 + self.below_any(&[30, 120, 330]),
+            coefficients: self.coefficients(),
         };
         let (tm, tr) = (self.below_any(&[201, 2001]), 1 + self.below_any(&[200, 3000]));
         let sheet = self.sheet();
@@ -219,8 +228,8 @@ fn prints_what_the_query_answers() {
 
 type Edit = fn(&mut Query);
 
-/// Of a query that is refused by 10: each breaks one more rule, all at their nearest ends.
-const FAULTS: [(u32, Edit); 15] = [
+/// Of a query that is refused by 10: each breaks one more rule, all at their nearest ends, in the order of their refusals.
+const FAULTS: [(u32, Edit); 18] = [
     (1, |query| query.train.braked_weight = 44),
     (1, |query| query.train.braked_weight = 47),
     (1, |query| query.train.braked_weight = 161),
@@ -230,6 +239,9 @@ const FAULTS: [(u32, Edit); 15] = [
     (6, |query| query.tm = 2001),
     (6, |query| query.tr = 0),
     (6, |query| query.tr = 3001),
+    (12, |query| query.train.coefficients.dt = 201),
+    (12, |query| query.train.coefficients.vc = 151),
+    (12, |query| query.train.coefficients.inertia.ki1 = 79),
     (7, |query| query.sheet.push(0)),
     (7, |query| query.sheet.truncate(19)),
     (8, |query| query.signal = 2),
@@ -256,10 +268,11 @@ fn refusals() {
     assert_eq!(short_line(-35).verdict(answer(0, 0, Mark::Curve)), Err(Fault::Refused(10)));
 }
 
+/// But for 12, which document 02's Card 5 puts between 6 and 7.
 #[test]
 fn lowest_refusal_first() {
     for (first, (low, fault)) in FAULTS.iter().enumerate() {
-        for (high, other) in FAULTS[first..].iter().filter(|(high, _)| high > low).chain(&[(10, (|_| ()) as Edit)]) {
+        for (high, other) in FAULTS[first..].iter().filter(|(high, _)| high != low).chain(&[(10, (|_| ()) as Edit)]) {
             let mut query = short_line(-35);
             fault(&mut query);
             other(&mut query);
@@ -309,7 +322,7 @@ fn head_at_the_signal() {
 #[test]
 fn ramp_too_weak_alone() {
     let query = |overlap| Query { train: WEAK, ..Query::line(&[(0, 0), (1001, -35)], overlap) };
-    assert_eq!(greatest_place(45, -35, 1, 200, 400), Err(10));
+    assert_eq!(greatest_place(45, -35, 1, 200, 400, FIRST_VALUES.inertia), Err(10));
     assert!(exact_p(WEAK, 1, 1, 0).is_ok());
     assert_eq!(query(0).answer().mark, Mark::Curve);
     assert_eq!(query(1).answer().mark, Mark::Curve);
@@ -322,7 +335,7 @@ fn ramp_too_weak_alone() {
 fn step_too_weak_alone() {
     for overlap in [0, 1, 500] {
         let query = |gradient| Query { train: WEAK, ..Query::line(&[(0, gradient), (500, 0)], overlap) };
-        assert!(greatest_place(45, -19, 1, 200, 400).is_ok());
+        assert!(greatest_place(45, -19, 1, 200, 400, FIRST_VALUES.inertia).is_ok());
         assert_eq!(query(-19).run(), Err(10), "overlap {overlap}");
         assert_eq!(query(-19).verdict(query(0).answer()), Err(Fault::Refused(10)), "overlap {overlap}");
         // What lies behind the tail is not consulted, what lies under it is (Card 2).
@@ -501,7 +514,7 @@ fn ends_of_the_climbs() {
 #[test]
 fn an_overlap_that_just_fits() {
     for (v, tm, tr, overlap, distance, release) in [(7, 251, 400, 11, 11_000, 7), (5, 69, 100, 3, 3001, 4)] {
-        assert_eq!(ramp(100, 0, v, tm, tr).map(|stop| stop.distance), Ok(distance), "V {v}");
+        assert_eq!(ramp(100, 0, v, tm, tr, FIRST_VALUES.inertia).map(|stop| stop.distance), Ok(distance), "V {v}");
         let query = Query { tm, tr, ..Query::line(&[(0, 0)], overlap) };
         assert_eq!(query.answer().release, release, "V {v}");
     }
@@ -606,7 +619,7 @@ fn the_overlaps_end_to_the_millimetre() {
         (5, 69, 100, 3, 3000, Ok(()), Ok(())),
         (7, 70, 100, 5, 5001, Err(Fault::Beyond(7)), Ok(())),
     ] {
-        let (lower, upper) = greatest_place(100, 0, v, tm, tr).expect("strong enough");
+        let (lower, upper) = greatest_place(100, 0, v, tm, tr, FIRST_VALUES.inertia).expect("strong enough");
         assert_eq!([millimetres(&lower), millimetres(&upper)], [place; 2], "V {v}");
         let query = Query { tm, tr, head: 1000, ..Query::line(&[(0, 0)], overlap) };
         assert_eq!(query.verdict(answer(v, v, Mark::Release)), verdict, "V {v}");
@@ -617,7 +630,8 @@ fn the_overlaps_end_to_the_millimetre() {
 
 /// For a stop less than 5 mm before a whole metre: that metre, for the overlap's end, and the millimetres missed.
 fn just_before_a_metre(train: Train, gradient: i32, v: u32, tm: u32, tr: u32) -> Option<(u16, Fraction)> {
-    let (_, upper) = greatest_place(train.braked_weight, gradient, v, tm, tr).expect("strong enough");
+    let inertia = train.coefficients.inertia;
+    let (_, upper) = greatest_place(train.braked_weight, gradient, v, tm, tr, inertia).expect("strong enough");
     let overlap = upper.raised() as u16;
     let missed = Fraction::from(1000 * u32::from(overlap)) - in_millimetres(&upper);
     (missed < Fraction::from(5)).then_some((overlap, missed))

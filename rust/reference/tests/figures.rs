@@ -2,6 +2,7 @@
 
 use numbers::Numbers;
 use reference::ceilings::ceilings;
+use reference::coefficients::{Coefficients, FIRST_VALUES};
 use reference::fraction::Fraction;
 use reference::natural::Natural;
 use reference::step::{row, step, Curve, CURVES};
@@ -10,9 +11,15 @@ use reference::train::{di, Train};
 mod numbers;
 
 /// Document 01's "EP": passenger, electropneumatic brake working, BW 100.
-const EP: Train = Train { freight: false, electropneumatic: true, braked_weight: 100, length: 200, top_speed: 100 };
-const LONG_FREIGHT: Train =
-    Train { freight: true, electropneumatic: false, braked_weight: 100, length: 1000, top_speed: 100 };
+const EP: Train = Train {
+    freight: false,
+    electropneumatic: true,
+    braked_weight: 100,
+    length: 200,
+    top_speed: 100,
+    coefficients: FIRST_VALUES,
+};
+const LONG_FREIGHT: Train = Train { freight: true, electropneumatic: false, length: 1000, ..EP };
 
 fn ebi(train: Train, v: u32, v0: u32, gradient: i32) -> Result<u32, u32> {
     step(train, v, v0, gradient).map(|distances| distances[0])
@@ -121,6 +128,7 @@ fn delays() {
 
 #[test]
 fn slopes_and_brakes() {
+    let di = |gradient| di(gradient, FIRST_VALUES.inertia);
     assert_eq!(di(1), fraction(8829, 1_000_000));
     assert_eq!(di(0), fraction(0, 1));
     assert_eq!(di(-20), fraction(-1962, 10_000));
@@ -169,10 +177,12 @@ fn refusals_of_speed_and_slope() {
     assert!(step(Train { braked_weight: 160, ..EP }, 330, 330, -35).is_ok());
 }
 
-/// Everything is wrong at first; then one fault after another is mended, from the lowest number up.
+/// Everything is wrong at first; then one fault after another is mended, from the lowest number up, with Card 5's 12
+/// between 5 and 10.
 #[test]
 fn lowest_refusal_first() {
-    let all = Train { braked_weight: 47, length: 1001, top_speed: 0, ..EP };
+    let coefficients = Coefficients { vc: 152, ..FIRST_VALUES };
+    let all = Train { braked_weight: 47, length: 1001, top_speed: 0, coefficients, ..EP };
     assert_eq!(step(all, 50, 400, 36), Err(1));
     let mended = Train { braked_weight: 45, ..all };
     assert_eq!(step(mended, 50, 400, -36), Err(2));
@@ -182,10 +192,13 @@ fn lowest_refusal_first() {
     assert_eq!(step(mended, 50, 331, -36), Err(3));
     assert_eq!(step(mended, 50, 51, -36), Err(4));
     assert_eq!(step(mended, 50, 50, -36), Err(5));
-    assert_eq!(step(mended, 50, 50, -35), Err(10));
+    assert_eq!(step(mended, 50, 50, -35), Err(12));
     assert_eq!(row(Curve::P, mended, 331, -36, 0), Err(3));
     assert_eq!(row(Curve::P, mended, 53, -36, 0), Err(4));
     assert_eq!(row(Curve::P, mended, 50, -36, 0), Err(5));
+    assert_eq!(row(Curve::P, mended, 50, -35, 0), Err(12));
+    let mended = Train { coefficients: FIRST_VALUES, ..mended };
+    assert_eq!(step(mended, 50, 50, -35), Err(10));
     assert_eq!(row(Curve::P, mended, 50, -35, 0), Err(10));
     assert_eq!(row(Curve::P, mended, 50, 0, 2), Err(11));
     assert_eq!(row(Curve::P, mended, 50, 0, 3).map(|row| row.len()), Ok(3));
@@ -193,7 +206,7 @@ fn lowest_refusal_first() {
 
 /// BW 45 on -18 has 0.0527 m/s² at K0 = 1 but 0.0412 at K0 = 0.95: refused at V0 though 330 km/h would do.
 #[test]
-fn row_is_decided_at_its_target() {
+fn a_row_too_weak_at_its_target() {
     let weak = Train { braked_weight: 45, top_speed: 330, ..EP };
     assert_eq!(row(Curve::Ebi, weak, 1, -18, 330), Err(10));
     assert!(step(weak, 330, 1, -18).is_ok());

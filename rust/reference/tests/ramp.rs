@@ -2,6 +2,7 @@
 //! faster run goes farther, and the closed forms of document 000, section 5.1.
 
 use numbers::Numbers;
+use reference::coefficients::FIRST_VALUES;
 use reference::fraction::Fraction;
 use reference::ramp::{goes_farther, greatest_place, keeps_promise, motion, ramp, Motion, Phase, Stop};
 use reference::train::dr;
@@ -9,7 +10,7 @@ use reference::units::millimetres;
 
 mod numbers;
 
-/// BW, gradient, V, TM and TR as `ramp` takes them.
+/// BW, gradient, V, TM and TR as `ramp` takes them beside the first inertia; a train's own is in coefficients.rs.
 type Inputs = (u32, i32, u32, u32, u32);
 
 /// Gradients about the slopes that part K, and the ends of every span.
@@ -32,15 +33,15 @@ fn milliseconds(count: u32) -> Fraction {
 }
 
 fn run((braked_weight, gradient, v, tm, tr): Inputs) -> Result<Stop, u32> {
-    ramp(braked_weight, gradient, v, tm, tr)
+    ramp(braked_weight, gradient, v, tm, tr, FIRST_VALUES.inertia)
 }
 
 fn moving((braked_weight, gradient, v, tm, tr): Inputs) -> Motion {
-    motion(braked_weight, gradient, v, tm, tr).expect("accepted inputs")
+    motion(braked_weight, gradient, v, tm, tr, FIRST_VALUES.inertia).expect("accepted inputs")
 }
 
 fn bounds((braked_weight, gradient, v, tm, tr): Inputs) -> (Fraction, Fraction) {
-    greatest_place(braked_weight, gradient, v, tm, tr).expect("accepted inputs")
+    greatest_place(braked_weight, gradient, v, tm, tr, FIRST_VALUES.inertia).expect("accepted inputs")
 }
 
 /// The same run at another speed.
@@ -49,11 +50,11 @@ fn at_speed((braked_weight, gradient, _, tm, tr): Inputs, v: u32) -> Inputs {
 }
 
 fn outrun((braked_weight, gradient, v, tm, tr): Inputs, faster: u32) -> Result<bool, u32> {
-    goes_farther(braked_weight, gradient, v, faster, tm, tr)
+    goes_farther(braked_weight, gradient, v, faster, tm, tr, FIRST_VALUES.inertia)
 }
 
 fn kept((braked_weight, gradient, v, tm, tr): Inputs, distance: u32, moment: u32) -> bool {
-    keeps_promise(braked_weight, gradient, v, tm, tr, distance, moment)
+    keeps_promise(braked_weight, gradient, v, tm, tr, distance, moment, FIRST_VALUES.inertia)
 }
 
 impl Numbers {
@@ -348,8 +349,8 @@ fn refusals() {
     // dp + di = 0.362025 - 1.1 × 9.81 × 0.029 = 0.049086 and, at -28, 0.059877.
     assert_eq!(run((45, -29, 36, 200, 400)), Err(10));
     assert!(run((45, -28, 36, 200, 400)).is_ok());
-    assert_eq!(greatest_place(45, -29, 36, 200, 400), Err(10));
-    assert!(!keeps_promise(45, -29, 36, 200, 400, 1_000_000, 0));
+    assert_eq!(greatest_place(45, -29, 36, 200, 400, FIRST_VALUES.inertia), Err(10));
+    assert!(!kept((45, -29, 36, 200, 400), 1_000_000, 0));
 }
 
 /// Every pair of faults in inputs that are refused by 10 already, so that each single fault is a pair with it.

@@ -1,6 +1,7 @@
 //! Document 02, Card 13, for the step model: EBI is at most SBI, SBI at most W and W at most P, and the times between.
 
 use numbers::Numbers;
+use reference::coefficients::FIRST_VALUES;
 use reference::fraction::Fraction;
 use reference::step::{exact, in_order, row, step, CURVES};
 use reference::train::{di, Train};
@@ -31,7 +32,14 @@ const SPEEDS: [(u32, u32); 13] = [
 ];
 
 /// Document 01's "EP": passenger, electropneumatic brake working, BW 100.
-const EP: Train = Train { freight: false, electropneumatic: true, braked_weight: 100, length: 200, top_speed: 100 };
+const EP: Train = Train {
+    freight: false,
+    electropneumatic: true,
+    braked_weight: 100,
+    length: 200,
+    top_speed: 100,
+    coefficients: FIRST_VALUES,
+};
 
 /// Train, V, V0 and gradient as `step` takes them.
 type Inputs = (Train, u32, u32, i32);
@@ -56,9 +64,10 @@ fn fraction(numerator: i64, denominator: u64) -> Fraction {
     Fraction::from((numerator, denominator))
 }
 
-/// Document 01: Vβ in m/s.
+/// Document 01: Vβ in m/s, by document 02's Card 5 with the train's own h, Dt and Ki.
 fn v_beta((train, v, v0, gradient): Inputs) -> Fraction {
-    let coasted = metres_per_second(v) - di(gradient) * (fraction(1, 1) + train.tf());
+    let t = fraction(i64::from(train.coefficients.h), 10) + train.tf();
+    let coasted = metres_per_second(v) - di(gradient, train.coefficients.inertia) * t;
     coasted.max(metres_per_second(v0))
 }
 
@@ -147,6 +156,7 @@ impl Numbers {
             braked_weight: 45 + 5 * self.below(24),
             length,
             top_speed: 1 + self.below(330),
+            coefficients: self.coefficients(),
         }
     }
 
@@ -176,7 +186,7 @@ fn distances_at_the_thresholds() {
     let (mut accepted, mut refused) = (0, 0);
     for (freight, electropneumatic) in KINDS {
         for (braked_weight, length) in BRAKED_WEIGHTS.into_iter().flat_map(|bw| LENGTHS.map(|length| (bw, length))) {
-            let train = Train { freight, electropneumatic, braked_weight, length, top_speed: 330 };
+            let train = Train { freight, electropneumatic, braked_weight, length, top_speed: 330, ..EP };
             for (gradient, (v, v0)) in GRADIENTS.into_iter().flat_map(|i| SPEEDS.map(|speeds| (i, speeds))) {
                 *(if held((train, v, v0, gradient)) { &mut accepted } else { &mut refused }) += 1;
             }

@@ -1,16 +1,22 @@
 //! The stored output of the program `tables`, made anew: what that program prints is held to this at every check.
 
-use reference::tables::printed;
+use std::sync::LazyLock;
 
 const STORED: &str = include_str!("../../../crates/tables/stdout");
 
+static PRINTED: LazyLock<String> = LazyLock::new(reference::tables::printed);
+
+/// The lines of one table, without its heading.
+fn lines(table: &str) -> Vec<&'static str> {
+    PRINTED.lines().filter(|line| line.split(' ').next() == Some(table)).collect()
+}
+
 #[test]
 fn stored_tables() {
-    let printed = printed();
-    for (number, (line, stored)) in (1..).zip(printed.lines().zip(STORED.lines())) {
+    for (number, (line, stored)) in (1..).zip(PRINTED.lines().zip(STORED.lines())) {
         assert_eq!(line, stored, "line {number}");
     }
-    assert_eq!(printed.len(), STORED.len());
+    assert_eq!(PRINTED.len(), STORED.len());
 }
 
 /// The first number of each answer: accepted ones and refusals both stand there.
@@ -25,11 +31,15 @@ fn refusals_in_the_tables() {
         ("sheet", "0 7"),
         ("query", "0 8 9 10"),
         ("tail", "0 2 10"),
+        ("own_step", "0 4 5 10 12"),
+        ("own_row", "0 10 12"),
+        ("own_ramp", "0 3 5 12"),
+        ("own_query", "0 10 12"),
     ];
     for (table, refusals) in wanted {
-        let lines = STORED.lines().filter(|line| line.split(' ').next() == Some(table));
-        let answers =
-            lines.map(|line| line.split(" = ").nth(1).expect("an answer").split(' ').next().expect("a number"));
+        let answers = lines(table)
+            .into_iter()
+            .map(|line| line.split(" = ").nth(1).expect("an answer").split(' ').next().expect("a number"));
         let mut seen: Vec<u32> = answers.map(|number| number.parse().expect("a number")).collect();
         seen.sort();
         seen.dedup();
@@ -41,7 +51,7 @@ fn refusals_in_the_tables() {
 /// moment rise.
 #[test]
 fn ramp_runs_at_every_speed() {
-    let lines: Vec<&str> = STORED.lines().filter(|line| line.starts_with("ramp ")).collect();
+    let lines = lines("ramp");
     let climbs = lines[lines.len() - 3 * 102..].chunks(102);
     for ((slope, times), climb) in
         [("100 0", "200 400"), ("45 -28", "2000 3000"), ("160 35", "2000 1")].iter().zip(climbs)
@@ -56,6 +66,25 @@ fn ramp_runs_at_every_speed() {
             }
             assert!(fields[0] == 0 && fields[1] > last[0] && fields[2] > last[1], "{line}");
             last = [fields[1], fields[2]];
+        }
+    }
+}
+
+/// Document 02, Card 5: headings, the number of lines, and that of the fields in each line.
+#[test]
+fn own_tables_are_whole() {
+    let coefficients = "dt h kr cr nc vc ki1 ki2 ki3 i1 i2";
+    for (table, inputs, answer, count, fields) in [
+        ("own_step", format!("{coefficients} V V0 i"), "EBI SBI W P", 25 * 6 * 5, 21),
+        ("own_row", format!("{coefficients} V0 i"), "length distances", 25 * 2, 17 + 161),
+        ("own_ramp", "ki1 ki2 ki3 i1 i2 i V".to_owned(), "distance moment", 11 * 6 * 3, 12),
+        ("own_query", format!("{coefficients} i overlap head"), "release permitted mark W SBI EBI", 25 * 4 * 2 * 2, 23),
+    ] {
+        let heading = format!("# {table} {inputs} = refusal {answer}");
+        let place = PRINTED.lines().position(|line| line == heading).expect(&heading);
+        assert!(PRINTED.lines().skip(place + 1).take(count).eq(lines(table)), "{table}");
+        for line in lines(table) {
+            assert_eq!(line.split(' ').count(), fields, "{line}");
         }
     }
 }

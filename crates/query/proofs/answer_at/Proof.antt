@@ -9,7 +9,7 @@ use Rattle.query.proofs.answer_at.Statement.{statement}
 use Rattle.query.proofs.answer_at.Tie as tie
 
 speed-requires : tie.Need-speed-requires
-speed-requires c κs = let f = c .pre .2 in (c .pre .0, c .pre .1, f .weight, f .length, f .gradient, f .speeds, f .top)
+speed-requires c κs = let f = c .pre .1 in (c .pre .0, f .weight, f .length, f .gradient, f .speeds, f .top)
 
 enum-told : tie.Need-enum-told
 enum-told c = search needs

@@ -13,7 +13,7 @@ returns-2 c = λ e.
     let s = o .before in
     let a = s .args in
     let j : a .low + a .stride ≤ a .end = omega (arith, o .if1 .left, s .pre .2) in
-    (sure-of _ _ _ (s .pre .0) (a .low) (a .low + a .stride) (a .d .0) (s .pre .1) j (c .surely-fit .ensures e), j)
+    (sure-of (a .c) (a .v0 .0) (a .low) (a .low + a .stride) (a .d .0) (c .surely-fit .ensures e), j)
 
 sub-if1 : tie.Need-sub-if1
 sub-if1 c = search needs
@@ -34,7 +34,7 @@ surely-fit-requires c κs =
     let h = s .pre .1 in
     let k = s .pre .3 in
     let near = near _ _ _ i in
-    (i .small, near _ (omega arith) (omega (arith, c .if1 .left, s .pre .2)), near _ (omega arith) (omega (arith, c .if1 .left, s .pre .2)), i .enough _ (omega arith))
+    (i .small, near _ (omega arith) (omega (arith, c .if1 .left, s .pre .2)), near _ (omega arith) (omega (arith, c .if1 .left, s .pre .2)), omega arith)
 
 pub next-sure-spec : {M : Type 1} → statement M
 next-sure-spec = tie.close (tie.spec sub-if1 returns add-first add-last surely-fit-requires returns-2)

@@ -1,28 +1,25 @@
 -- `permitted::speed`: too weak, or the release speed does not fit, or the climb.
 use borrow.Author.Needs.{needs}
-use borrow.Author.Tests.{leb-true, not-true, not-false}
+use borrow.Author.Tests.{not-true, not-false}
 use mathlib.Core.Bool.{true}
 use mathlib.Core.Path.{_≡_, refl, sym, _∙_}
 use native.Mathlib.Nat.{le-refl, le-trans}
-use Rattle.step_braking.specs.Plan.{strongOf, Near, Enough}
+use Rattle.step_braking.specs.Plan.{strongOf, Near}
 use Rattle.step_braking.specs.Braking.{strong}
 use Rattle.step_braking.proofs.Exact.{strong-is}
 use Rattle.query_permitted.specs.Permitted.{fits, permittedOf, markOf}
-use Rattle.query_permitted.proofs.Fit.{enough-on, tested-is, climbs-alike}
+use Rattle.query_permitted.proofs.Fit.{tested-is, climbs-alike}
 use Rattle.query_permitted.proofs.speed.Statement.{statement}
 use Rattle.query_permitted.proofs.speed.Tie as tie
 
 near : (c : tie.After-course-of) → let a = c .before .before .args in Near (a .v0 .0) (a .v0 .0)
-near c = let s = c .before .before in record { high = le-trans (s .pre .5) (s .pre .6); ahead = le-refl _ }
+near c = let s = c .before .before in record { high = le-trans (s .pre .4) (s .pre .5); ahead = le-refl _ }
 
 strong-says : (c : tie.After-is-strong) → let a = c .before .before .before .args in c .is-strong .result ≡ strong (a .k) (a .train) (a .g) (a .v0) (a .v0)
 strong-says c =
     let a = c .before .before .before .args in
     let e : c .is-strong .result ≡ strongOf (c .before .course-of .result) (a .v0 .0) (a .v0 .0) = c .is-strong .ensures in
     e ∙ strong-is (a .k) (a .train) (a .g) (c .before .course-of .result) (c .before .course-of .ensures) (a .v0) (a .v0) (le-refl _)
-
-enough : (c : tie.Else1) → let a = c .before .before .before .before .args in Enough (c .before .before .course-of .result) (a .v0 .0) (a .v0 .0)
-enough c = leb-true _ _ (sym (c .before .is-strong .ensures) ∙ not-false _ (c .if1 .left))
 
 is-strong : (c : tie.Else1) → let a = c .before .before .before .before .args in strong (a .k) (a .train) (a .g) (a .v0) (a .v0) ≡ true
 is-strong c = sym (strong-says (c .before)) ∙ not-false _ (c .if1 .left)
@@ -32,7 +29,7 @@ fit-says c =
     let e = c .before in
     let s = e .before .before .before .before in
     let a = s .args in
-    c .fits2 .ensures ∙ tested-is (a .k) (s .pre .0) (s .pre .1) (a .train) (a .g) _ (e .before .before .course-of .ensures) (a .v0) (enough e) (a .d) (a .v0 .0) (le-refl _)
+    c .fits2 .ensures ∙ tested-is (a .k) (a .train) (a .g) _ (e .before .before .course-of .ensures) (a .v0) (a .d) (a .v0 .0) (le-refl _)
 
 course-of-requires : tie.Need-course-of-requires
 course-of-requires c κs = search needs
@@ -44,7 +41,7 @@ returns : tie.Need-returns
 returns c = rw (sym (strong-says (c .before)) ∙ not-true _ (c .if1 .taken)) refl
 
 fits-requires : tie.Need-fits-requires
-fits-requires c κs = (c .before .before .course-of .ensures .small, near (c .before .before), enough c)
+fits-requires c κs = (c .before .before .course-of .ensures .small, near (c .before .before))
 
 returns-2 : tie.Need-returns-2
 unfolding permittedOf markOf
@@ -54,9 +51,7 @@ last-fitting-requires : tie.Need-last-fitting-requires
 last-fitting-requires c κs =
     let e = c .before .before in
     let s = e .before .before .before .before in
-    let a = s .args in
-    let o = e .before .before .course-of .ensures in
-    record { small = o .small; steady = o .minus ∙ s .pre .1 .minus; enough = enough-on (a .k) (s .pre .0) (s .pre .1) (a .train) (a .g) _ o (a .v0) (enough e); ahead = s .pre .5; high = s .pre .6 }
+    record { small = e .before .before .course-of .ensures .small; ahead = s .pre .4; high = s .pre .5 }
 
 returns-3 : tie.Need-returns-3
 unfolding permittedOf markOf
@@ -66,7 +61,7 @@ returns-3 c =
     let s = e .before .before .before .before in
     let a = s .args in
     rw
-    (is-strong e, sym (fit-says f) ∙ not-false _ (c .before .if2 .left), c .last-fitting .ensures ∙ climbs-alike (a .k) (s .pre .0) (s .pre .1) (a .train) (a .g) _ (e .before .before .course-of .ensures) (a .v0) (enough e) (a .d) _)
+    (is-strong e, sym (fit-says f) ∙ not-false _ (c .before .if2 .left), c .last-fitting .ensures ∙ climbs-alike (a .k) (a .train) (a .g) _ (e .before .before .course-of .ensures) (a .v0) (a .d) _)
     refl
 
 pub speed-spec : {M : Type 1} → statement M

@@ -40,7 +40,7 @@ loop-again-2 : tie.Need-loop-again-2 Inv-loop μ-loop
 loop-again-2 c = c .before .before .before .loop .inv
 
 returns : tie.Need-returns Inv-loop μ-loop
-returns c = let i = c .before .loop .inv in (i .2, i .1)
+returns c = let i = c .before .loop .inv in (i .2, i .0, i .1)
 
 pub surely-fitting-spec : {M : Type 1} → statement M
 surely-fitting-spec =

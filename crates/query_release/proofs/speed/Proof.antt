@@ -44,7 +44,7 @@ returns-2 c =
     let s = i .before .before in
     let a = s .args in
     let h : Starts (a .k) (atSpeed (a .o) 1) (Refused (c .enum-told .given .0 .0)) = rw (c .enum-told .given .1) at (consulted t) in
-    found-weak (a .k) (a .o) (a .overlap) (a .top) (weak-past (a .k) (a .o) (a .overlap) (i .if1 .left) (s .pre .1) (omega (arith, h .0, h .1)))
+    found-weak (a .k) (a .o) (a .overlap) (a .top) (weak-past (a .k) (a .o) (a .overlap) (i .if1 .left) (s .pre) (omega (arith, h .0, h .1)))
 
 returns-3 : tie.Need-returns-3
 returns-3 c =

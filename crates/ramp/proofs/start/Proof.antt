@@ -12,7 +12,7 @@ use Rattle.ramp.proofs.start.Statement.{statement}
 use Rattle.ramp.proofs.start.Tie as tie
 
 -- the inputs are not turned away
-passed : (c : tie.Else1) → firstOf (inputs (c .before .before .args .o)) ≡ 0
+passed : (c : tie.Else1) → let a = c .before .before .args in firstOf (inputs (a .k) (a .o)) ≡ 0
 passed c = omega (arith, c .if1 .left, c .before .turned-away .ensures)
 
 -- the test says what the definition says
@@ -31,7 +31,7 @@ returns c =
     (c .if1 .taken, by-inputs (a .k) (a .o) _ (c .if1 .taken) e)
 
 plan-of-requires : tie.Need-plan-of-requires
-plan-of-requires c κs = let s = c .before .before in (s .pre, inputs-fit (s .args .o) (passed c))
+plan-of-requires c κs = let a = c .before .before .args in inputs-fit (a .k) (a .o) (passed c)
 
 is-strong-requires : tie.Need-is-strong-requires
 is-strong-requires c κs = search needs

@@ -1,15 +1,16 @@
 -- `distances_at`: each of the four is the plan's distance.
-use Rattle.step_braking.specs.Plan.{Small, Near, Enough}
+use Rattle.step_braking.specs.Plan.{sOf, Small, Near, Enough}
+use Rattle.step_curve.specs.Plan.{aOf}
 use Rattle.step_quick.specs.Bounds.{IsBounds}
 use Rattle.step.proofs.distances_at.Statement.{statement}
 use Rattle.step.proofs.distances_at.Tie as tie
 
 known : (c : tie.After-bounds-at) → let a = c .before .args in
-    Small (a .c) × Near (a .v .0) (a .v0 .0) × Enough (a .c) (a .v .0) (a .v0 .0) × IsBounds (a .c) (a .v .0) (a .v .0) (a .v0 .0) (c .bounds-at .result)
+    Small (a .c) × Near (a .v .0) (a .v0 .0) × Enough (a .c) (a .v .0) (a .v0 .0) × IsBounds (a .c) (aOf (a .c) (a .v .0) (a .v0 .0)) (sOf (a .v .0)) (a .v .0) (a .v0 .0) (c .bounds-at .result)
 known c = let p = c .before .pre in (p .0, p .1, p .2, c .bounds-at .ensures)
 
 bounds-at-requires : tie.Need-bounds-at-requires
-bounds-at-requires c κs = let p = c .pre in (p .0, p .1, p .1, p .2)
+bounds-at-requires c κs = c .pre
 
 distance-requires : tie.Need-distance-requires
 distance-requires c κs = known c

@@ -9,14 +9,11 @@ use mir.Syntax.{w32}
 use mir.ValLaws.{toZ-ofZ}
 use native.Mathlib.Nat.{le-trans}
 use native.Mathlib.Omega.{arith}
-use Rattle.train.specs.Coefficients.{first}
 use Rattle.train.specs.Gradient.{gradientOf}
 use Rattle.train.specs.Refusal.{firstOf}
 use Rattle.train.proofs.Refusals.{first-after, first-before}
-use Rattle.train.proofs.Spans.{first-within}
 use Rattle.step_braking.specs.Plan.{Near}
 use Rattle.step_braking.specs.Braking.{strong}
-use Rattle.step_braking.specs.Agreement.{IsCourse}
 use Rattle.step_braking.proofs.Exact.{strong-is}
 use Rattle.step.specs.Answer.{inputs, weak}
 use Rattle.step.proofs.Answers.{Accepted, inputs-rising, inputs-fit}
@@ -27,11 +24,11 @@ gradient-is : (c : tie.After-gradient-of) → c .gradient-of .result ≡ gradien
 gradient-is c = rw (toZ-ofZ w32 (c .before .args .gradient) (c .before .fits .gradient)) at (c .gradient-of .ensures)
 
 -- the inputs are not turned away
-passed : (c : tie.Else1) → let g = c .before .before in let a = g .before .args in firstOf (inputs (a .train) (g .gradient-of .result) (a .v) (a .v0)) ≡ 0
+passed : (c : tie.Else1) → let g = c .before .before in let a = g .before .args in firstOf (inputs (a .k) (a .train) (g .gradient-of .result) (a .v) (a .v0)) ≡ 0
 passed c = omega (arith, c .if1 .left, c .before .turned-away .ensures)
 
-fits : (c : tie.Else1) → let g = c .before .before in let a = g .before .args in Accepted (a .train) (g .gradient-of .result) (a .v) (a .v0)
-fits c = let g = c .before .before in let a = g .before .args in inputs-fit (a .train) (g .gradient-of .result) (a .v) (a .v0) (passed c)
+fits : (c : tie.Else1) → let g = c .before .before in let a = g .before .args in Accepted (a .k) (a .train) (g .gradient-of .result) (a .v) (a .v0)
+fits c = let g = c .before .before in let a = g .before .args in inputs-fit (a .k) (a .train) (g .gradient-of .result) (a .v) (a .v0) (passed c)
 
 near : (c : tie.Else1) → let a = c .before .before .before .args in Near (a .at .0) (a .v0 .0)
 near c =
@@ -39,26 +36,23 @@ near c =
     let b = c .before .before .before .pre (n .ahead) in
     record { high = le-trans (b .1) (n .high); ahead = b .0 }
 
-course : (c : tie.After-course-of) → let g = c .before .before .before .before in IsCourse first (g .before .args .train) (g .gradient-of .result) (c .course-of .result)
-course c = rw (c .before .first-values .ensures) at (c .course-of .ensures)
-
 -- the test says what the definition says
-strong-says : (c : tie.After-is-strong) → let g = c .before .before .before .before .before in let a = g .before .args in
-    c .is-strong .result ≡ strong first (a .train) (g .gradient-of .result) (a .at) (a .v0)
+strong-says : (c : tie.After-is-strong) → let g = c .before .before .before .before in let a = g .before .args in
+    c .is-strong .result ≡ strong (a .k) (a .train) (g .gradient-of .result) (a .at) (a .v0)
 strong-says c =
-    let g = c .before .before .before .before .before in
+    let g = c .before .before .before .before in
     let a = g .before .args in
     c .is-strong .ensures
-    ∙ strong-is first (a .train) (g .gradient-of .result) (c .before .course-of .result) (course (c .before)) (a .at) (a .v0) (near (c .before .before .before) .ahead)
+    ∙ strong-is (a .k) (a .train) (g .gradient-of .result) (c .before .course-of .result) (c .before .course-of .ensures) (a .at) (a .v0) (near (c .before .before) .ahead)
 
 -- so refusal 10 decides
-decides : (c : tie.Else1) → let g = c .before .before in let a = g .before .args in let w = weak first (a .train) (g .gradient-of .result) (a .at) (a .v0) in
-    firstOf (inputs (a .train) (g .gradient-of .result) (a .v) (a .v0) ++ w) ≡ firstOf w
+decides : (c : tie.Else1) → let g = c .before .before in let a = g .before .args in let w = weak (a .k) (a .train) (g .gradient-of .result) (a .at) (a .v0) in
+    firstOf (inputs (a .k) (a .train) (g .gradient-of .result) (a .v) (a .v0) ++ w) ≡ firstOf w
 decides c =
     let g = c .before .before in
     let a = g .before .args in
-    first-after 0 (inputs (a .train) (g .gradient-of .result) (a .v) (a .v0)) (weak first (a .train) (g .gradient-of .result) (a .at) (a .v0))
-    (inputs-rising (a .train) (g .gradient-of .result) (a .v) (a .v0)) (passed c)
+    first-after 0 (inputs (a .k) (a .train) (g .gradient-of .result) (a .v) (a .v0)) (weak (a .k) (a .train) (g .gradient-of .result) (a .at) (a .v0))
+    (inputs-rising (a .k) (a .train) (g .gradient-of .result) (a .v) (a .v0)) (passed c)
 
 gradient-of-requires : tie.Need-gradient-of-requires
 gradient-of-requires c κs = search needs
@@ -72,37 +66,34 @@ returns c =
     let a = g .before .args in
     let e = c .before .turned-away .ensures in
     rw (← gradient-is g)
-    (omega (arith, c .if1 .taken), first-before (inputs (a .train) (g .gradient-of .result) (a .v) (a .v0)) (weak first (a .train) (g .gradient-of .result) (a .at) (a .v0)) (λ i. omega (arith, c .if1 .taken, e)) ∙ sym e)
-
-first-values-requires : tie.Need-first-values-requires
-first-values-requires c κs = search needs
+    (omega (arith, c .if1 .taken), first-before (inputs (a .k) (a .train) (g .gradient-of .result) (a .v) (a .v0)) (weak (a .k) (a .train) (g .gradient-of .result) (a .at) (a .v0)) (λ i. omega (arith, c .if1 .taken, e)) ∙ sym e)
 
 course-of-requires : tie.Need-course-of-requires
-course-of-requires c κs = let f = fits (c .before) in rw (c .first-values .ensures) (first-within, f .weight, f .length, f .gradient)
+course-of-requires c κs = let f = fits c in (f .coefficients, f .weight, f .length, f .gradient)
 
 is-strong-requires : tie.Need-is-strong-requires
-is-strong-requires c κs = (c .course-of .ensures .small, near (c .before .before))
+is-strong-requires c κs = (c .course-of .ensures .small, near (c .before))
 
 returns-2 : tie.Need-returns-2
 returns-2 c =
     let s = c .before in
-    let g = s .before .before .before .before .before in
+    let g = s .before .before .before .before in
     let a = g .before .args in
-    let e : strong first (a .train) (g .gradient-of .result) (a .at) (a .v0) ≡ false = sym (strong-says s) ∙ not-true _ (c .if2 .taken) in
-    rw (← gradient-is g) (lit< tt, decides (s .before .before .before) ∙ rw e)
+    let e : strong (a .k) (a .train) (g .gradient-of .result) (a .at) (a .v0) ≡ false = sym (strong-says s) ∙ not-true _ (c .if2 .taken) in
+    rw (← gradient-is g) (lit< tt, decides (s .before .before) ∙ rw e)
 
 returns-3 : tie.Need-returns-3
 returns-3 c =
     let s = c .before in
-    let g = s .before .before .before .before .before in
+    let g = s .before .before .before .before in
     let a = g .before .args in
     let t = not-false _ (c .if2 .left) in
-    let e : strong first (a .train) (g .gradient-of .result) (a .at) (a .v0) ≡ true = sym (strong-says s) ∙ t in
+    let e : strong (a .k) (a .train) (g .gradient-of .result) (a .at) (a .v0) ≡ true = sym (strong-says s) ∙ t in
     rw (← gradient-is g)
     (record {
-      accepted = decides (s .before .before .before) ∙ rw e;
-      speeds = fits (s .before .before .before) .speeds;
-      course = course (s .before);
+      accepted = decides (s .before .before) ∙ rw e;
+      speeds = fits (s .before .before) .speeds;
+      course = s .before .course-of .ensures;
       enough = leb-true _ _ (sym (s .is-strong .ensures) ∙ t);
     })
 
@@ -113,7 +104,6 @@ start-spec =
     gradient-of-requires
     turned-away-requires
     returns
-    first-values-requires
     course-of-requires
     is-strong-requires
     returns-2

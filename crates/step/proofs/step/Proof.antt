@@ -11,10 +11,10 @@ use Rattle.step.proofs.step.Statement.{statement}
 use Rattle.step.proofs.step.Tie as tie
 
 -- what `start` gives, of the gradient that came in
-started : (c : tie.After-start) → let a = c .before .args in Starts (a .train) (gradientOf (a .gradient)) (a .v) (a .v0) (a .v) (c .start .result)
+started : (c : tie.After-start) → let a = c .before .args in Starts (a .k) (a .train) (gradientOf (a .gradient)) (a .v) (a .v0) (a .v) (c .start .result)
 started c = rw (toZ-ofZ w32 (c .before .args .gradient) (c .before .fits .gradient)) at (c .start .ensures)
 
-ready : (c : tie.After-known-told2) → let a = c .before .before .before .before .args in IsReady (a .train) (gradientOf (a .gradient)) (a .v) (a .v0) (a .v) (c .before .begun2 .given .0 .0)
+ready : (c : tie.After-known-told2) → let a = c .before .before .before .before .args in IsReady (a .k) (a .train) (gradientOf (a .gradient)) (a .v) (a .v0) (a .v) (c .before .begun2 .given .0 .0)
 ready c = rw (c .before .begun2 .given .1) at (started (c .before .before .before))
 
 start-requires : tie.Need-start-requires
@@ -36,15 +36,15 @@ returns : tie.Need-returns
 returns c =
     let b = c .before .before in
     let a = b .before .before .before .args in
-    let s : Starts (a .train) (gradientOf (a .gradient)) (a .v) (a .v0) (a .v) (Refused (b .begun .given .0 .0)) = rw (b .begun .given .1) at (started (b .before .before)) in
-    rw (c .refused-with .ensures) (step-refused (a .train) (gradientOf (a .gradient)) (a .v) (a .v0) _ (s .0) (s .1))
+    let s : Starts (a .k) (a .train) (gradientOf (a .gradient)) (a .v) (a .v0) (a .v) (Refused (b .begun .given .0 .0)) = rw (b .begun .given .1) at (started (b .before .before)) in
+    rw (c .refused-with .ensures) (step-refused (a .k) (a .train) (gradientOf (a .gradient)) (a .v) (a .v0) _ (s .0) (s .1))
 
 returns-2 : tie.Need-returns-2
 returns-2 c =
     let r = c .before in
     let a = r .before .before .before .before .args in
     let s = ready r in
-    rw (c .distances-at .ensures) (step-given (a .train) (gradientOf (a .gradient)) (a .v) (a .v0) _ (s .accepted) (s .speeds .ahead) (s .course) (s .enough))
+    rw (c .distances-at .ensures) (step-given (a .k) (a .train) (gradientOf (a .gradient)) (a .v) (a .v0) _ (s .accepted) (s .speeds .ahead) (s .course) (s .enough))
 
 pub step-spec : {M : Type 1} → statement M
 step-spec =

@@ -7,11 +7,11 @@ use borrow.Author.Needs.{needs}
 use Rattle.step_course.proofs.course_of.Statement.{statement}
 use Rattle.step_course.proofs.course_of.Tie as tie
 
-tf-small : (c : tie.After-of-train) → c .before .before .before .before .args .k .dt * c .of-train .result ≤ 3700000000
-tf-small c = delay-small _ _ (c .before .before .before .before .pre .0 .dt) (c .of-train .ensures .1)
+tf-small : (c : tie.After-of-train) → c .before .before .before .before .before .args .k .dt * c .of-train .result ≤ 3700000000
+tf-small c = delay-small _ _ (c .before .before .before .before .before .pre .0 .dt) (c .of-train .ensures .1)
 
 abbrev start : tie.After-nominal → tie.Start
-start c = c .before .before .before .before .before .before .before .before
+start c = c .before .before .before .before .before .before .before .before .before
 
 power-most : (c : tie.After-nominal) → start c .args .k .kr * c .nominal .result ≤ 17850000
 power-most c = power-small _ _ (start c .pre .0 .kr) (c .nominal .ensures .1)
@@ -35,7 +35,7 @@ mul-t8 : tie.Need-mul-t8
 mul-t8 c = search needs
 
 add-t8 : tie.Need-add-t8
-add-t8 c = omega (arith, tf-small (c .before), c .before .before .before .before .before .pre .0 .h)
+add-t8 c = omega (arith, tf-small (c .before), c .before .before .before .before .before .before .pre .0 .h)
 
 add-r8 : tie.Need-add-r8
 add-r8 c = omega (arith, tf-small (c .before))

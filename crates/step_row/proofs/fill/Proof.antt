@@ -35,7 +35,7 @@ ready c =
     (s .pre .0, record { high = omega (arith, c .loop-test .taken); ahead = omega arith }, rw e (s .pre .1 (l .k) (c .loop-test .taken)))
 
 bounds-at-requires : tie.Need-bounds-at-requires Inv-loop μ-loop
-bounds-at-requires c κs = let r = ready c in (r .0, r .1, r .1, r .2)
+bounds-at-requires c κs = ready c
 
 distance-requires : tie.Need-distance-requires Inv-loop μ-loop
 distance-requires c κs = let r = ready (c .before) in (r .0, r .1, r .2, c .bounds-at .ensures)

@@ -107,7 +107,7 @@ fn legend(out: &mut String, notes: &[String]) {
 
 fn title(out: &mut String, case: Case) {
     let Case { train, gradient, target } = case;
-    let Train { brake, electropneumatic, braked_weight, length, top_speed } = train;
+    let Train { brake, electropneumatic, braked_weight, length, top_speed, .. } = train;
     let ep = if electropneumatic { "working" } else { "not working" };
     let train = format!("A {brake} train of {length}, braked weight {braked_weight} %, electropneumatic brake {ep}");
     text(out, (LEFT, 28.0), "start", &train);

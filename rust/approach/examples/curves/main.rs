@@ -6,7 +6,7 @@ mod drawing;
 mod notes;
 mod picture;
 
-use approach::{Brake, Kmh, Metre, PerMille, Train};
+use approach::{Brake, Coefficients, Kmh, Metre, PerMille, Train};
 use command::{natural, whole, Trouble};
 use picture::Case;
 use std::io::{self, Write};
@@ -19,7 +19,8 @@ const HELP: &str = "\
 usage: curves [passenger|freight ep|- BW LENGTH TOP_SPEED GRADIENT V0] > curves.svg
 
 Draws the EBI, SBI, W and P curves of a train that brakes to V0, as an SVG: speed over distance, the
-target at the right. Without arguments an example is drawn, the same as
+target at the right. The train has the first values of RFI TC.SCC SR AV 03 R02. Without arguments an
+example is drawn, the same as
     curves passenger ep 100 200 160 -5 0
 
     passenger or freight: the brake type
@@ -43,6 +44,7 @@ const EXAMPLE: Case = Case {
         braked_weight: 100,
         length: Metre(200),
         top_speed: Kmh(160),
+        coefficients: Coefficients::FIRST_VALUES,
     },
     gradient: PerMille(-5),
     target: Kmh(0),
@@ -60,6 +62,7 @@ fn told(arguments: &[String]) -> Result<Case, String> {
         braked_weight: natural("BW", braked_weight)?,
         length: Metre(natural("LENGTH", length)?),
         top_speed: Kmh(natural("TOP_SPEED", top_speed)?),
+        coefficients: Coefficients::FIRST_VALUES,
     };
     let (gradient, target) = (PerMille(whole("GRADIENT", gradient)?), Kmh(natural("V0", target)?));
     Ok(Case { train, gradient, target })

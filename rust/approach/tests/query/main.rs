@@ -1,12 +1,13 @@
 //! The library's approach answers against the reference, on accepted and refused queries, and the desk's third demand of the
 //! accepted ones.
-use approach::{Approach, Brake, Ceilings, Kmh, Mark, Metre, Train};
+use approach::{Approach, Brake, Ceilings, Kmh, Mark, Metre, PerMille, Refusal, Train};
 use asked::{accepted, check, one_signal, refusal, sheet};
 use inputs::{Line, Query, Random, EXAMPLE, EXAMPLE_TRAIN};
 use reference::approach::printed;
 
 mod agreement;
 mod asked;
+mod coefficients;
 mod tail;
 
 const WEAK: Train = Train { braked_weight: 45, ..EXAMPLE_TRAIN };
@@ -271,7 +272,7 @@ fn too_weak() {
 type Edit = fn(&mut Query);
 
 /// Each breaks one rule, at its nearest end, of a query that is refused by 10.
-const FAULTS: [(u32, Edit); 13] = [
+const FAULTS: [(u32, Edit); 16] = [
     (1, |q| q.train.braked_weight = 44),
     (1, |q| q.train.braked_weight = 47),
     (1, |q| q.train.braked_weight = 165),
@@ -281,22 +282,31 @@ const FAULTS: [(u32, Edit); 13] = [
     (6, |q| q.tm = 2001),
     (6, |q| q.tr = 0),
     (6, |q| q.tr = 3001),
+    (12, |q| q.train.coefficients.kr = 29),
+    (12, |q| q.train.coefficients.vc = Kmh(151)),
+    (12, |q| q.train.coefficients.inertia.i2 = PerMille(1)),
     (7, |q| q.sheet.push(0)),
     (7, |q| q.sheet.clear()),
     (8, |q| q.signal = 2),
     (9, |q| q.head = 6),
 ];
 
+/// Of two refusals the one that is decided first.
+fn first(one: u32, other: u32) -> u32 {
+    let decided = Refusal::DECIDED.map(Refusal::number);
+    *decided.iter().find(|number| [one, other].contains(number)).expect("a refusal")
+}
+
 #[test]
-fn the_lowest_refusal_first() {
+fn the_first_refusal_that_applies() {
     let weak = Query { train: WEAK, ..Query::printed(sheet(&[(0, -35)], &[(5, 1), (7, 0)], 10)) };
     assert_eq!(refusal(&weak), 10);
-    for (low, fault) in FAULTS {
-        for (high, other) in FAULTS {
+    for (one, fault) in FAULTS {
+        for (number, other) in FAULTS {
             let mut q = weak.clone();
             fault(&mut q);
             other(&mut q);
-            assert_eq!(refusal(&q), low.min(high), "{q:?}");
+            assert_eq!(refusal(&q), first(one, number), "{q:?}");
         }
     }
 }

@@ -1,7 +1,7 @@
 //! Approach queries: some as they come in practice, and the longest of all.
 use super::timing::{compared, mixed, way, worst, Way};
 use approach::raw::{self, Answer};
-use approach::{Brake, Kmh, Metre, Train};
+use approach::{Brake, Coefficients, Kmh, Metre, Train};
 use bench::{own, plain};
 use inputs::{Line, Query, Random, EXAMPLE, EXAMPLE_TRAIN};
 
@@ -13,6 +13,7 @@ const FREIGHT: Train = Train {
     braked_weight: 100,
     length: Metre(1000),
     top_speed: Kmh(330),
+    coefficients: Coefficients::FIRST_VALUES,
 };
 
 fn numbers(a: Answer) -> u64 {

@@ -1,12 +1,13 @@
 //! Single distances and rows.
 use super::timing::{compared, mixed, way, Way};
 use approach::raw::{self, Curve, Distances, Train};
+use approach::Coefficients;
 use bench::{own, plain};
 use inputs::Random;
 
 const TRAINS: usize = 2_000;
 
-/// A train and a gradient that every V0 of 0 to 330 accepts, and two speeds.
+/// A train of the first values and a gradient that every V0 of 0 to 330 accepts, and two speeds.
 struct Input {
     train: Train,
     gradient: i32,
@@ -23,6 +24,7 @@ fn input(random: &mut Random) -> Input {
             braked_weight: 100 + 5 * random.below(13) as u32,
             length: random.below(1001) as u32,
             top_speed: 330,
+            coefficients: Coefficients::FIRST_VALUES.into(),
         },
         gradient: random.below(61) as i32 - 25,
         v,

@@ -9,14 +9,14 @@ use approach::raw::{Answer, Train};
 
 /// The last speed before the first that does not fit, or the end; those up to `sure` are known to.
 #[inline(always)]
-fn climb(begin: u32, end: u32, sure: u32, fits: impl Fn(u32) -> bool) -> u32 {
-    let mut v = begin;
+fn climb(sure: u32, end: u32, fits: impl Fn(u32) -> bool) -> u32 {
+    let mut v = sure;
     loop {
         if v >= end {
             break end;
         }
         let next = v + 1;
-        if next > sure && !fits(next) {
+        if !fits(next) {
             break v;
         }
         v = next;
@@ -46,7 +46,7 @@ impl Plan for Own {
     /// A stop is surely within the overlap where a faster one is.
     #[inline(always)]
     fn release(train: Train, tm: u32, tr: u32, gradient: i32, overlap: u32) -> u32 {
-        let m = plain::ramp::plan(train.braked_weight, gradient, 1, tm, tr);
+        let m = plain::ramp::plan(train.braked_weight, gradient, 1, tm, tr, train.coefficients.inertia);
         let stops = |v| ramp::stop_from(&m, v).distance <= overlap;
         let end = train.top_speed.min(FASTEST_CREEP);
         let (mut sure, mut high) = (0, end + 1);
@@ -54,7 +54,7 @@ impl Plan for Own {
             let middle = sure + (high - sure) / 2;
             *(if stops(middle) { &mut sure } else { &mut high }) = middle;
         }
-        climb(0, end, sure, stops)
+        climb(sure, end, stops)
     }
 
     /// The bounds show many speeds at once, ever fewer where the distance gets short.
@@ -72,7 +72,7 @@ impl Plan for Own {
                 stride /= 2;
             }
         }
-        Some(climb(v0, top, sure, fits))
+        Some(climb(sure, top, fits))
     }
 }
 

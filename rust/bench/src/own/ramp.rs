@@ -1,6 +1,6 @@
 //! The ramp: one quotient for a stop under full braking, and the place in one word up to 2¹⁹ ms.
 use crate::plain::ramp::{self as plain, Plan};
-use approach::raw::Stop;
+use approach::raw::{Inertia, Stop};
 
 /// Up to here, in ms, every number of the place is one word long.
 const WORD: u64 = 1 << 19;
@@ -44,6 +44,6 @@ pub(crate) fn stop_from(m: &Plan, v: u32) -> Stop {
 }
 
 #[inline(never)]
-pub extern "C" fn ramp(braked_weight: u32, gradient: i32, v: u32, tm: u32, tr: u32) -> Stop {
-    stop(&plain::plan(braked_weight, gradient, v, tm, tr))
+pub extern "C" fn ramp(braked_weight: u32, gradient: i32, v: u32, tm: u32, tr: u32, inertia: Inertia) -> Stop {
+    stop(&plain::plan(braked_weight, gradient, v, tm, tr, inertia))
 }

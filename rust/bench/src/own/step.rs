@@ -1,5 +1,5 @@
 //! Distances: bounds of one word each settle nearly all of them; where they do not, the wide numbers do.
-use crate::plain::step::{self as plain, beta, course, deceleration, Course};
+use crate::plain::step::{self as plain, beta, course, deceleration, strong, Course};
 use approach::raw::{Curve, Distances, Train};
 
 /// Vβ in 10⁹, lowered; a braking part in µm is at least `part` and at most `most` over `a`.
@@ -10,13 +10,14 @@ struct Bounds {
     most: u64,
 }
 
+/// With the deceleration at one speed, and the speed that is left at the same or another.
 #[inline(always)]
-fn bounds(c: Course, from: u32, to: u32, v0: u32) -> Bounds {
-    let s = from.max(1) as u64;
+fn bounds(c: Course, braked: u32, to: u32, v0: u32) -> Bounds {
+    let s = braked.max(1) as u64;
     let target = 2_500_000 * v0 as u64;
     let low = beta(c, to, v0) / 1_000_000_000;
     let high = low + 1;
-    let a = 81 * deceleration(c, s, v0) / 32_000_000;
+    let a = 81 * deceleration(c, braked, v0) as u64 / 32_000_000;
     Bounds {
         beta: low,
         a,
@@ -51,11 +52,27 @@ fn distance(curve: Curve, c: Course, v: u32, v0: u32, b: &Bounds) -> u32 {
     settled(curve, c, v, b).unwrap_or_else(|| plain::distance(curve, c, v, v0))
 }
 
-/// Whether the bounds show that P is at most as many metres at each speed from one to another: with the first's deceleration and
-/// the last's speeds.
+/// Of two speeds, the lower first, the one with the weaker brake. Between them it is no weaker: up to VC it does not fall with the
+/// speed, nor above where nC is not below 0, and else it falls there ever faster.
+#[inline(always)]
+fn weaker(c: Course, from: u32, to: u32, v0: u32) -> u32 {
+    let over = |v, by: u32| deceleration(c, v, v0) * by.max(1) as i64;
+    if c.nc >= 0 || over(from, to) <= over(to, from) {
+        from
+    } else {
+        to
+    }
+}
+
+/// Whether the bounds show that the brake is strong enough and P at most as many metres at each speed from one to another: with the
+/// weaker one's deceleration and the last's speeds.
 #[inline(always)]
 pub(crate) fn surely_fit(c: Course, from: u32, to: u32, v0: u32, metres: u32) -> bool {
-    let b = bounds(c, from, to, v0);
+    let weaker = weaker(c, from, to, v0);
+    if !strong(c, weaker, v0) {
+        return false;
+    }
+    let b = bounds(c, weaker, to, v0);
     let (run, rest) = run(Curve::P, c, b.beta, to);
     let room = (1_000_000 * metres.min(500_000) as u64).saturating_sub(run + rest);
     b.most / 256 < b.a * (room / 256)

@@ -9,7 +9,7 @@ use std::ops::RangeInclusive;
 /// The ramp's greatest speed in km/h.
 pub(crate) const FASTEST_CREEP: u32 = 100;
 
-/// How the ways and the two climbs are worked out; of a climb the brake is strong enough.
+/// How the ways and the two climbs are worked out; where a climb begins the brake is strong enough.
 pub(crate) trait Plan {
     /// The least gradient over the points `from` up to but not including `to`, of which there is one at least.
     fn least(stretches: &[Entry], from: u32, to: u32) -> i32;
@@ -37,7 +37,8 @@ impl Plan for Plain {
 
     #[inline(always)]
     fn release(train: Train, tm: u32, tr: u32, gradient: i32, overlap: u32) -> u32 {
-        let fits = |v| ramp::plan(train.braked_weight, gradient, v, tm, tr).stop().distance <= overlap;
+        let (weight, inertia) = (train.braked_weight, train.coefficients.inertia);
+        let fits = |v| ramp::plan(weight, gradient, v, tm, tr, inertia).stop().distance <= overlap;
         climb(1..=train.top_speed.min(FASTEST_CREEP), fits).unwrap_or(0)
     }
 
@@ -56,13 +57,13 @@ fn answered<P: Plan>(train: Train, tm: u32, tr: u32, sheet: &[u8], signal: u32, 
     let mut release = 0;
     if overlap > 0 {
         let past = P::least(stretches, tail(place), place + overlap);
-        if !ramp::strong(train.braked_weight, past) {
+        if !ramp::strong(train.braked_weight, past, train.coefficients.inertia) {
             return Err(10);
         }
         release = P::release(train, tm, tr, past, 1000 * overlap);
     }
     let course = step::course(train, P::least(stretches, tail(head), place + 1));
-    if !step::strong(course, release) {
+    if !step::strong(course, release, release) {
         return Err(10);
     }
     let last = P::permitted(course, release, train.top_speed, metres);
@@ -71,7 +72,7 @@ fn answered<P: Plan>(train: Train, tm: u32, tr: u32, sheet: &[u8], signal: u32, 
     Ok(Answer { refusal: 0, release, permitted, mark, w, sbi, ebi })
 }
 
-/// Refusals 7 to 10 are its own; the caller sees to those of the train and the times.
+/// Refusals 7 to 10 are its own; the caller sees to those of the train, its coefficients and the times.
 #[inline(always)]
 pub(crate) fn answer_by<P: Plan>(train: Train, tm: u32, tr: u32, sheet: &[u8], signal: u32, head: u32) -> Answer {
     let refused = |refusal| Answer { refusal, release: 0, permitted: 0, mark: 0, w: 0, sbi: 0, ebi: 0 };

@@ -1,7 +1,7 @@
 //! The ramp as one would write it in Rust for accepted inputs: the same whole numbers, with u128 for the place. It stands behind
 //! a call that is not inlined, as the proved one does.
 use super::step::{nominal, slope, LEAST7};
-use approach::raw::Stop;
+use approach::raw::{Inertia, Stop};
 
 /// Some 17 minutes, by which every accepted train rolls back.
 const LONGEST: u64 = 1 << 20;
@@ -16,8 +16,8 @@ pub(crate) struct Plan {
     pub(crate) tr: u64,
 }
 
-pub(crate) fn plan(braked_weight: u32, gradient: i32, v: u32, tm: u32, tr: u32) -> Plan {
-    let (up7, down7) = slope(gradient);
+pub(crate) fn plan(braked_weight: u32, gradient: i32, v: u32, tm: u32, tr: u32, inertia: Inertia) -> Plan {
+    let (up7, down7) = slope(gradient, inertia);
     let tr = 10 * tr as u64;
     Plan {
         start: 50_000_000_000 * v as u64 * tr,
@@ -70,12 +70,12 @@ impl Plan {
 }
 
 /// Whether dp + di is not below 0.05 m/s².
-pub(crate) fn strong(braked_weight: u32, gradient: i32) -> bool {
-    let (up7, down7) = slope(gradient);
-    90 * nominal(braked_weight) + up7 >= down7 + LEAST7
+pub(crate) fn strong(braked_weight: u32, gradient: i32, inertia: Inertia) -> bool {
+    let (up7, down7) = slope(gradient, inertia);
+    90 * nominal(braked_weight) + up7 >= down7 + LEAST7 as u64
 }
 
 #[inline(never)]
-pub extern "C" fn ramp(braked_weight: u32, gradient: i32, v: u32, tm: u32, tr: u32) -> Stop {
-    plan(braked_weight, gradient, v, tm, tr).stop()
+pub extern "C" fn ramp(braked_weight: u32, gradient: i32, v: u32, tm: u32, tr: u32, inertia: Inertia) -> Stop {
+    plan(braked_weight, gradient, v, tm, tr, inertia).stop()
 }

@@ -2,13 +2,13 @@
 //! limbs where they do not. It stands behind a call that is not inlined, as the proved one does.
 use super::wide;
 use crate::Wide;
-use approach::raw::{Curve, Distances, Train};
+use approach::raw::{Coefficients, Curve, Distances, Inertia, Train};
 
 /// A speed of 1 km/h in m/s / (9·10¹⁵).
 const KMH: u64 = 2_500_000_000_000_000;
 
 /// The least deceleration that a model is used with, in 10⁻⁷ m/s².
-pub(crate) const LEAST7: u64 = 500_000;
+pub(crate) const LEAST7: i64 = 500_000;
 
 /// What the speeds do not change.
 #[derive(Clone, Copy)]
@@ -17,7 +17,10 @@ pub(crate) struct Course {
     pub(crate) r8: u64,
     up7: u64,
     down7: u64,
-    power: u64,
+    power: i64,
+    cr: i64,
+    pub(crate) nc: i64,
+    vc: u32,
 }
 
 /// What one pair of speeds gives for every curve.
@@ -34,24 +37,29 @@ pub(crate) fn course(train: Train, gradient: i32) -> Course {
     let passenger = 3_500_000 + 15 * square(if train.electropneumatic > 0 { 0 } else { train.length as u64 });
     let freight = 13_500_000 + 4 * square(train.length as u64);
     let delay = if train.freight > 0 { passenger.max(freight) } else { passenger };
-    let (up7, down7) = slope(gradient);
+    let Coefficients { dt, h, kr, cr, nc, vc, inertia } = train.coefficients;
+    let (up7, down7) = slope(gradient, inertia);
     Course {
-        t8: 100_000_000 + 130 * delay,
-        r8: 100_000_000 + 130 * delay,
+        t8: 10_000_000 * h as u64 + dt as u64 * delay,
+        r8: 100_000_000 + dt as u64 * delay,
         up7,
         down7,
-        power: 57 * nominal(train.braked_weight),
+        power: kr as i64 * nominal(train.braked_weight) as i64,
+        cr: cr.into(),
+        nc: nc.into(),
+        vc,
     }
 }
 
 /// An uphill and a downhill slope's deceleration in 10⁻⁷ m/s².
-pub fn slope(gradient: i32) -> (u64, u64) {
+pub fn slope(gradient: i32, inertia: Inertia) -> (u64, u64) {
+    let Inertia { ki1, ki2, ki3, i1, i2 } = inertia;
     let k = match gradient {
-        1.. => 90,
-        -20..=0 => 100,
-        _ => 110,
+        i if i > i1 as i32 => ki1,
+        i if i > i2 => ki2,
+        _ => ki3,
     };
-    let slope = k * 981 * gradient.unsigned_abs() as u64;
+    let slope = k as u64 * 981 * gradient.unsigned_abs() as u64;
     (if gradient > 0 { slope } else { 0 }, if gradient < 0 { slope } else { 0 })
 }
 
@@ -68,10 +76,17 @@ fn product(a: u128, b: u64) -> Wide {
     Wide { low: low as u64, mid: high as u64, high: (high >> 64) as u64 }
 }
 
-/// The deceleration in m/s² / (10¹² s), s the greater of V and 1 km/h.
+/// KC in thousandths, below 0 at times.
 #[inline(always)]
-pub(crate) fn deceleration(c: Course, s: u64, v0: u32) -> u64 {
-    c.power * (100 * s - 5 * v0 as u64) * 1000 + c.up7 * 100_000 * s - c.down7 * 100_000 * s
+fn kc(c: Course, v: u32) -> i64 {
+    1000 + c.nc * v.saturating_sub(c.vc) as i64
+}
+
+/// The deceleration in m/s² / (10¹² s), s the greater of V and 1 km/h; below 0 where brake or slope is.
+#[inline(always)]
+pub(crate) fn deceleration(c: Course, v: u32, v0: u32) -> i64 {
+    let s = v.max(1) as i64;
+    c.power * (100 * s - c.cr * v0 as i64) * kc(c, v) + (c.up7 as i64 - c.down7 as i64) * 100_000 * s
 }
 
 /// The speed that is left when the brake begins to act, in m/s / (9·10¹⁵).
@@ -84,7 +99,7 @@ pub(crate) fn beta(c: Course, v: u32, v0: u32) -> u64 {
 #[inline(always)]
 fn motion(c: Course, v: u32, v0: u32) -> Motion {
     let s = v.max(1) as u64;
-    let (a, beta) = (deceleration(c, s, v0), beta(c, v, v0));
+    let (a, beta) = (deceleration(c, v, v0) as u64, beta(c, v, v0));
     let (speed, target) = (v as u64 * KMH, v0 as u64 * KMH);
     let square = (beta - target) as u128 * (beta + target) as u128;
     Motion { a, beta, speed, part: product(square, 50_000 * s), scale: product(8_100_000_000_000_000_000_000, a) }
@@ -113,15 +128,18 @@ pub(crate) fn distance(curve: Curve, c: Course, v: u32, v0: u32) -> u32 {
     distance_of(curve, c, &motion(c, v, v0))
 }
 
-/// Whether dp + di from v0 to v0 is not below 0.05 m/s².
-pub(crate) fn strong(c: Course, v0: u32) -> bool {
-    let s = v0.max(1) as u64;
-    c.power * (100 * s - 5 * v0 as u64) + 100 * s * c.up7 >= 100 * s * (c.down7 + LEAST7)
+/// Whether dp + di from v to v0 is not below 0.05 m/s².
+#[inline(always)]
+pub(crate) fn strong(c: Course, v: u32, v0: u32) -> bool {
+    deceleration(c, v, v0) >= LEAST7 * 100_000 * v.max(1) as i64
 }
 
-/// Whether P is at most as many millimetres; no division.
+/// Whether the brake is strong enough and P at most as many millimetres; no division.
 #[inline(always)]
 pub(crate) fn fits(c: Course, v: u32, v0: u32, millimetres: u32) -> bool {
+    if !strong(c, v, v0) {
+        return false;
+    }
     let m = motion(c, v, v0);
     wide::at_most(scaled(Curve::P, c, &m), wide::times_inline(m.scale, millimetres as u64))
 }
