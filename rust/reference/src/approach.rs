@@ -2,12 +2,11 @@
 //! "Approach", with document 02's Cards 2 and 5), and the desk's third demand held against any answer.
 
 use crate::ceilings::ceilings;
-use crate::coefficients::FIRST_VALUES;
 use crate::fraction::Fraction;
 use crate::ramp::{greatest_place, ramp, ALLOWANCE, DEAD_TIMES, RISE_TIMES, SPEEDS};
 use crate::sheet::{self, least};
 use crate::step::{exact_p, step, Curve};
-use crate::train::Train;
+use crate::train::{Train, EP};
 use crate::units::in_millimetres;
 use std::fmt;
 use std::ops::RangeInclusive;
@@ -239,21 +238,13 @@ impl fmt::Display for Mark {
     }
 }
 
-/// Document 01, "Figures to hold": the train, TM, TR and head of the printing program.
-const PRINTED_TRAIN: Train = Train {
-    freight: false,
-    electropneumatic: true,
-    braked_weight: 100,
-    length: 200,
-    top_speed: 100,
-    coefficients: FIRST_VALUES,
-};
+/// Document 01, "Figures to hold": TM, TR and head of the printing program, whose train is EP.
 const PRINTED_TM: u32 = 200;
 const PRINTED_TR: u32 = 400;
 const PRINTED_HEAD: u32 = 0;
 
 fn printed_line(sheet: &[u8], number: u32) -> String {
-    match approach(PRINTED_TRAIN, PRINTED_TM, PRINTED_TR, sheet, number, PRINTED_HEAD) {
+    match approach(EP, PRINTED_TM, PRINTED_TR, sheet, number, PRINTED_HEAD) {
         Ok(Answer { release, permitted, mark, ceilings: [w, sbi, ebi] }) => {
             format!("{number} {release} {permitted} {mark} {w} {sbi} {ebi}\n")
         }

@@ -1,6 +1,6 @@
 //! The train and the slope: delay, slope deceleration and nominal deceleration (document 002, sections 6 and 7).
 
-use crate::coefficients::{Coefficients, Inertia};
+use crate::coefficients::{Coefficients, Inertia, FIRST_VALUES};
 use crate::fraction::{Fraction, Printed};
 
 /// Section 6: the highest speed of the service regime, V_RE, in km/h.
@@ -40,6 +40,16 @@ pub struct Train {
     pub top_speed: u32,
     pub coefficients: Coefficients,
 }
+
+/// Document 01's "EP": passenger, electropneumatic brake working, BW 100; the printing program's train.
+pub const EP: Train = Train {
+    freight: false,
+    electropneumatic: true,
+    braked_weight: 100,
+    length: 200,
+    top_speed: 100,
+    coefficients: FIRST_VALUES,
+};
 
 /// a + b × hundreds + c × hundreds², in seconds, with the length in hundreds of metres.
 fn delay(a: Printed, b: Printed, c: Printed, length: u32) -> Fraction {

@@ -9,7 +9,7 @@ use reference::fraction::Fraction;
 use reference::ramp::{greatest_place, ramp};
 use reference::sheet::{self, keeps, least, Sheet, Signal, Stretch};
 use reference::step::{exact_p, step};
-use reference::train::Train;
+use reference::train::{Train, EP};
 use reference::units::{in_millimetres, millimetres};
 use std::collections::BTreeMap;
 
@@ -19,15 +19,6 @@ mod numbers;
 const EXAMPLE: &str = "01 00 02 00 14 00 00 00 1A 00 00 00 26 00 00 00 D0 07 00 00 \
     00 00 00 00 00 00 00 00 00 00 78 00 21 04 00 00 00 00";
 
-/// The printing program's train.
-const EP: Train = Train {
-    freight: false,
-    electropneumatic: true,
-    braked_weight: 100,
-    length: 200,
-    top_speed: 100,
-    coefficients: FIRST_VALUES,
-};
 const WEAK: Train = Train { braked_weight: 45, ..EP };
 
 /// Card 2: the shortest two, the card's own and the longest.

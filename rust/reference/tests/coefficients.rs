@@ -9,19 +9,12 @@ use reference::fraction::Fraction;
 use reference::ramp::{goes_farther, greatest_place, keeps_promise, ramp, Stop};
 use reference::sheet::write;
 use reference::step::{exact_p, row, step, Curve};
-use reference::train::{di, Train};
+use reference::train::{self, di, Train};
 
 mod numbers;
 
-/// Document 01's "EP": passenger, electropneumatic brake working, BW 100; dr is 0.779 m/s².
-const EP: Train = Train {
-    freight: false,
-    electropneumatic: true,
-    braked_weight: 100,
-    length: 200,
-    top_speed: 330,
-    coefficients: FIRST_VALUES,
-};
+/// Document 01's "EP", with the highest top speed; dr is 0.779 m/s².
+const EP: Train = Train { top_speed: 330, ..train::EP };
 /// Trains whose delay is a whole number of tenths of a second, which stands beside them: 3.5; 3.5 + 0.15 × 6²; 13.5; and
 /// 3.5 + 0.15 × 10² for 1,000 m, which is more than 13.5 + 0.04 × 10².
 const DELAYS: [(Train, i128); 4] = [

@@ -6,19 +6,10 @@ use reference::coefficients::{Coefficients, FIRST_VALUES};
 use reference::fraction::Fraction;
 use reference::natural::Natural;
 use reference::step::{row, step, Curve, CURVES};
-use reference::train::{di, Train};
+use reference::train::{di, Train, EP};
 
 mod numbers;
 
-/// Document 01's "EP": passenger, electropneumatic brake working, BW 100.
-const EP: Train = Train {
-    freight: false,
-    electropneumatic: true,
-    braked_weight: 100,
-    length: 200,
-    top_speed: 100,
-    coefficients: FIRST_VALUES,
-};
 const LONG_FREIGHT: Train = Train { freight: true, electropneumatic: false, length: 1000, ..EP };
 
 fn ebi(train: Train, v: u32, v0: u32, gradient: i32) -> Result<u32, u32> {

@@ -1,10 +1,9 @@
 //! Document 02, Card 13, for the step model: EBI is at most SBI, SBI at most W and W at most P, and the times between.
 
 use numbers::Numbers;
-use reference::coefficients::FIRST_VALUES;
 use reference::fraction::Fraction;
 use reference::step::{exact, in_order, row, step, CURVES};
-use reference::train::{di, Train};
+use reference::train::{di, Train, EP};
 use reference::units::{in_millimetres, metres_per_second};
 
 mod numbers;
@@ -30,16 +29,6 @@ const SPEEDS: [(u32, u32); 13] = [
     (330, 329),
     (330, 330),
 ];
-
-/// Document 01's "EP": passenger, electropneumatic brake working, BW 100.
-const EP: Train = Train {
-    freight: false,
-    electropneumatic: true,
-    braked_weight: 100,
-    length: 200,
-    top_speed: 100,
-    coefficients: FIRST_VALUES,
-};
 
 /// Train, V, V0 and gradient as `step` takes them.
 type Inputs = (Train, u32, u32, i32);

@@ -5,16 +5,9 @@ use crate::coefficients::{Coefficients, Inertia, FIRST_VALUES};
 use crate::ramp::{ramp, Stop};
 use crate::sheet::write;
 use crate::step::{step, Curve};
-use crate::train::Train;
+use crate::train::{Train, EP};
 
-const TRAIN: Train = Train {
-    freight: false,
-    electropneumatic: false,
-    braked_weight: 100,
-    length: 600,
-    top_speed: 330,
-    coefficients: FIRST_VALUES,
-};
+const TRAIN: Train = Train { electropneumatic: false, length: 600, top_speed: 330, ..EP };
 
 const SETS: [Coefficients; 25] = [
     FIRST_VALUES,
