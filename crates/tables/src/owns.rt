@@ -180,10 +180,5 @@ pub fn own_query_line(k: usize) {
     let answer = query::query(own, train_to(330), 200, 400, &lent, 0, Metre(head));
     io::write_all(STDOUT_FILENO, b"own_query");
     text::coefficients(own);
-    text::short_gradient(gradient);
-    text::short_field(overlap);
-    text::field(head);
-    text::equals();
-    sheets::answer_fields(answer);
-    text::end();
+    sheets::query_rest(gradient, overlap, head, answer);
 }

@@ -100,7 +100,7 @@ pub fn sheet_line(k: usize) {
     text::end();
 }
 
-pub fn answer_fields(a: Answer) {
+fn answer_fields(a: Answer) {
     let release = a.release;
     let permitted = a.permitted;
     let w = a.w;
@@ -113,6 +113,16 @@ pub fn answer_fields(a: Answer) {
     text::field(w.0);
     text::field(sbi.0);
     text::field(ebi.0);
+}
+
+// The rest of the line of a query about one signal.
+pub fn query_rest(gradient: i16, overlap: u16, head: u32, answer: Answer) {
+    text::short_gradient(gradient);
+    text::short_field(overlap);
+    text::field(head);
+    text::equals();
+    answer_fields(answer);
+    text::end();
 }
 
 // The second stretch from 300 m, the second signal at 700 m, the line end at 6,000 m.

@@ -58,10 +58,5 @@ pub fn tail_line(k: usize) {
     );
     io::write_all(STDOUT_FILENO, b"tail");
     text::field(length);
-    text::short_gradient(gradient);
-    text::short_field(overlap);
-    text::field(head);
-    text::equals();
-    sheets::answer_fields(answer);
-    text::end();
+    sheets::query_rest(gradient, overlap, head, answer);
 }
