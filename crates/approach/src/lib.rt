@@ -13,6 +13,7 @@ ghost use Rattle.sheet.specs.Fields.{fourLists};
 ghost use Rattle.sheet_lookup.specs.Answer.{StretchAnswers, SignalAnswers};
 ghost use Rattle.sheet_mark.specs.Answer.{MoveAnswers};
 ghost use Rattle.sheet_writer.specs.Answer.{Writes};
+ghost use Rattle.query_back.specs.Answer.{BackAnswers};
 ghost use Rattle.query.specs.Answer.{QueryAnswers};
 ghost use Rattle.approach_train.specs.Entered.{trainOf};
 ghost use Rattle.approach_train.specs.Coefficients.{inertiaOf, coefficientsOf};
@@ -29,6 +30,7 @@ use sheet_lookup::Signal;
 use sheet_lookup::Stretch;
 use sheet_mark::Mark;
 use sheet_mark::Move;
+use sheet_walk::Back;
 use step::Distances;
 use step_curve::Curve;
 use train::Kmh;
@@ -158,6 +160,19 @@ pub extern "C" fn approach_sheet_next(sheet: &[u8], mark: Mark) -> Move
     ensures { λ r. ⌜ MoveAnswers (now (sheet .entry)) mark r (now (sheet .exit)) ⌝ }
 {
     mark.moved(sheet)
+}
+
+#[no_mangle]
+pub extern "C" fn approach_sheet_back(
+    sheet: &[u8],
+    signal: u32,
+    head: u32,
+    train_length: u32,
+    step: u32,
+) -> Back
+    ensures { λ r. ⌜ BackAnswers (now (sheet .entry)) signal head «train_length» step r (now (sheet .exit)) ⌝ }
+{
+    query_back::step_back(sheet, signal, Metre(head), Metre(train_length), step)
 }
 
 #[no_mangle]

@@ -22,7 +22,7 @@ use Rattle.ramp.specs.Answer.{overrun, stopOf}
 use Rattle.sheet_line.specs.Bytes.{u16At, u32At, signed}
 use Rattle.sheet.specs.Sheet.{keeps, accepted}
 use Rattle.sheet_lookup.specs.Answer.{stretchOf, signalOf}
-use Rattle.sheet_span.specs.Least.{slopeUpTo, leastOf}
+use Rattle.sheet_span.specs.Least.{stretchUpTo, leastOf}
 use Rattle.query_way.specs.Way.{wayOf}
 use Rattle.query_release.specs.Release.{releaseOf, weakPast}
 use Rattle.query.specs.Answer.{answerOf}
@@ -122,6 +122,6 @@ examples =
     ∷ []
 
 pub turned-away : All examples
-unfolding examples stepOf strong dp KC K0 dr di factor rowAnswer strongRow stopOf answer.strong motion.dp stretchOf signalOf accepted keeps allHold every u32At u16At signed answerOf weakPast releaseOf wayOf leastOf slopeUpTo
+unfolding examples stepOf strong dp KC K0 dr di factor rowAnswer strongRow stopOf answer.strong motion.dp stretchOf signalOf accepted keeps allHold every u32At u16At signed answerOf weakPast releaseOf wayOf leastOf stretchUpTo
 turned-away =
     ((refl, refl), ((refl, refl), ((refl, refl), ((refl, refl), ((refl, refl), ((refl, refl), ((refl, refl), ((refl, refl), ((refl, refl), ((refl, refl), ((refl, refl), ((refl, refl), ((refl, refl), ((refl, refl), ((refl, refl), ((refl, refl), ((refl, refl), ((refl, refl), ((refl, refl), ((refl, refl), ((refl, refl), ((refl, refl), tt))))))))))))))))))))))

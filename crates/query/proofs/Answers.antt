@@ -121,7 +121,7 @@ module _ (k : Coefficients) (t : Train) (tm tr : ℕ) (s : List ℕ) (signal hea
 
   pub inputs-judge : Judges (inputRules k t tm tr s signal head) (inputs k t tm tr s signal head)
   inputs-judge =
-      weight-settles (t .weight) then length-settles t then top-settles t then times-settles tm tr then coefficients-settle k then sheet-settles s then below 8 tt signal (lineOf s .signals) then at-least 9 tt head (lineOf s .place signal) then no-more
+      weight-settles (t .weight) then length-settles (t .length .0) then top-settles t then times-settles tm tr then coefficients-settle k then sheet-settles s then below 8 tt signal (lineOf s .signals) then at-least 9 tt head (lineOf s .place signal) then no-more
 
   refused-by : (n : ℕ) → 0 < n → firstOf (queryRefusals k t tm tr s signal head) ≡ n → Judged (queryRules k t tm tr s signal head) n → Answers (refused n)
   unfolding answerOf

@@ -1,14 +1,16 @@
 -- A line that rises and falls, by the definitions: the gradients of its ways, and that agreement from the head on does not settle them.
 use mathlib.Core.Path.{_≡_, refl, ap}
+use mathlib.Core.Bool.{Bool, true, false, cond}
 use mathlib.Core.List.{List, [], _∷_}
 use Prim.Native.Nat.{ℕ, _≤_}
 use native.Mathlib.Omega.{arith}
 use borrow.Author.Tests.{le-leb}
+use lib.Dec.{leb}
 use Rattle.train.specs.declared.Gradient.{Gradient}
 use Rattle.train.specs.Units.{metres}
 use Rattle.sheet_line.specs.Bytes.{u16At, u32At, signed}
 use Rattle.sheet.specs.Sheet.{lineOf}
-use Rattle.sheet_span.specs.Least.{slopeUpTo, slopeAt, leastOf}
+use Rattle.sheet_span.specs.Least.{slope, stretchUpTo, slopeAt, leastOf}
 use Rattle.query_way.specs.declared.Way.{Way}
 use Rattle.query_way.specs.Way.{pastOf, wayOf}
 
@@ -46,10 +48,16 @@ Goes head length w = wayOf (lineOf hilly) 0 head length ≡ w
 -- before nor the one behind. With 1 m the tail stands on the fall as the head is at the signal. From 6 a tail of 3 m is on the fall's
 -- first point; one of 6 m at 0, and so is every longer one.
 pub ways : Goes 0 0 (leads 6 (down 5) (up 3)) × (Goes 5 0 (leads 1 (down 5) (up 3)) × (Goes 6 0 (leads 0 (up 3) (up 3)) × (Goes 6 1 (leads 0 (down 5) (down 5)) × (Goes 6 3 (leads 0 (down 5) (down 5)) × (Goes 2 6 (leads 4 (down 5) (down 5)) × Goes 6 1000 (leads 0 (down 5) (down 5)))))))
-unfolding wayOf pastOf leastOf slopeUpTo u32At u16At signed
+unfolding wayOf pastOf leastOf stretchUpTo u32At u16At signed
 ways = (refl, (refl, (refl, (refl, (refl, (refl, refl))))))
+
+-- from 6 on the two lines are the same
+alike : (b : Bool) → slope (lineOf hilly) (cond b 3 2) ≡ slope (lineOf eased) (cond b 3 2)
+unfolding u32At u16At signed
+alike true = refl
+alike false = refl
 
 -- it is not enough to agree from the head on: with the head at 6 and an L of 1 the two ways differ
 pub not-from-the-head : ((p : ℕ) → 6 ≤ p → slopeAt (lineOf hilly) p ≡ slopeAt (lineOf eased) p) × (wayOf (lineOf hilly) 0 6 1 ≡ wayOf (lineOf eased) 0 6 1 → ⊥)
-unfolding wayOf pastOf leastOf slopeUpTo u32At u16At signed
-not-from-the-head = ((λ p h. rw (le-leb 6 p h) refl), (λ e. let i : _≡_ {A = ℕ} 5 0 = ap (λ (w : Way). w .ahead .fall) e in omega arith))
+unfolding wayOf pastOf leastOf stretchUpTo u32At u16At signed
+not-from-the-head = ((λ p h. rw (le-leb 6 p h) (alike (leb 9 p))), (λ e. let i : _≡_ {A = ℕ} 5 0 = ap (λ (w : Way). w .ahead .fall) e in omega arith))

@@ -47,7 +47,7 @@ module _ (s : List ℕ) (k head : ℕ) where
     on-line = headed-of s e .1 .signals .each k h
 
 -- the definition's tail is where the words beside it say
-tail-behind : (place length : ℕ) → Behind place length (tailOf place length)
+pub tail-behind : (place length : ℕ) → Behind place length (tailOf place length)
 tail-behind place length = ⊎-elim (λ h. inr (h, omega arith)) (λ h. inl (omega arith)) (below place length)
 
 -- the gradient of an overlap

@@ -1,11 +1,13 @@
-// What a sheet says of the way to a signal and past it. Document 01, "Approach"; document 02, Card 2.
-// Takes: `sheet_lookup`, `sheet_span`. Gives: `find`, refusals 7, 8, 9 or the way, to `query`.
+// What a sheet says of the way to a signal and past it. Document 01, "Approach"; document 02, Cards 2 and 3.
+// Takes: `sheet_lookup`, `sheet_walk`. Gives: `find`, refusals 7, 8, 9 or the way, to `query`; the signal and the tail alone
+// (`signal_ahead`, `tail`), to `query_back`.
 ghost use mathlib.Core.Path.{_≡_};
 ghost use mathlib.Core.Bool.{true};
 ghost use Prim.Native.Nat.{_+_, _≤_, _<_};
 ghost use Rattle.sheet.specs.Sheet.{lineOf, accepted};
 ghost use Rattle.query_way.specs.Way.{tailOf};
-ghost use Rattle.query_way.specs.Find.{Finds, Slope, Past};
+ghost use Rattle.query_way.specs.Find.{Ahead, Finds, Slope, Past};
+use sheet_lookup::Signal;
 use train::Gradient;
 use train::Metre;
 
@@ -24,8 +26,28 @@ pub enum Found {
     Ready(Way),
 }
 
+// The signal of that number, from 0, where the head is not beyond it; or refusal 7, 8 or 9 and zeros.
+pub fn signal_ahead(s: &[u8], signal: u32, head: Metre) -> Signal
+    ensures { λ r. ⌜ Ahead (now (s .entry)) signal (head .0) r ⌝ }
+{
+    let read = sheet_lookup::read_signal(s, signal);
+    let bad = read.refusal;
+    let place = read.place;
+    if bad > 0 {
+        return read;
+    }
+    if head.0 > place.0 {
+        return Signal {
+            refusal: 9,
+            place: Metre(0),
+            overlap: Metre(0),
+        };
+    }
+    read
+}
+
 // Where the tail is of a train with its head at a place: its length behind that, or at the line's beginning.
-fn tail(place: Metre, length: Metre) -> Metre
+pub fn tail(place: Metre, length: Metre) -> Metre
     ensures { λ r. ⌜ r .0 ≡ tailOf (place .0) (length .0) ⌝ }
 {
     let head = place.0;
@@ -41,9 +63,8 @@ fn ahead(s: &[u8], head: Metre, length: Metre, place: Metre) -> Gradient
     requires { ⌜ (accepted (now s) ≡ true) × (head .0 ≤ place .0) × (place .0 < lineOf (now s) .end) ⌝ }
     ensures { λ r. ⌜ Slope (lineOf (now (s .entry))) (tailOf (head .0) (length .0)) (place .0 + 1) r ⌝ }
 {
-    let end = place.0 + 1;
     let from = tail(head, length);
-    sheet_span::least(s, from, Metre(end))
+    sheet_walk::least(s, from, place)
 }
 
 // The least gradient from the tail of a train with its head at the signal up to but not including the overlap's end.
@@ -56,24 +77,21 @@ fn past(s: &[u8], place: Metre, length: Metre, overlap: Metre) -> Gradient
     if further < 1 {
         return Gradient { rise: 0, fall: 0 };
     }
-    let end = signal + further;
+    let last = signal + further - 1;
     let from = tail(place, length);
-    sheet_span::least(s, from, Metre(end))
+    sheet_walk::least(s, from, Metre(last))
 }
 
 // The way of a train of a length from its head to the signal of that number, from 0, and past it.
 pub fn find(s: &[u8], signal: u32, head: Metre, length: Metre) -> Found
     ensures { λ r. ⌜ Finds (now (s .entry)) signal (head .0) (length .0) r ⌝ }
 {
-    let read = sheet_lookup::read_signal(s, signal);
+    let read = signal_ahead(s, signal, head);
     let bad = read.refusal;
     let place = read.place;
     let overlap = read.overlap;
     if bad > 0 {
         return Found::Refused(bad);
-    }
-    if head.0 > place.0 {
-        return Found::Refused(9);
     }
     let distance = place.0 - head.0;
     let way = Way {

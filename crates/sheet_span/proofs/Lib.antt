@@ -1,3 +1,5 @@
-mod Order
-pub mod Pass
+pub mod Order
+pub mod Stretches
 pub mod Points
+pub mod Ends
+mod Halving

@@ -29,13 +29,17 @@ module _ (l : Line) where
     pub from : l .start k ≤ p
     pub before : p < reach k
 
-  -- the gradient at a point of the line: of the last stretch that starts at or before it; the first starts at 0
-  unfoldable pub slopeUpTo : ℕ → ℕ → Gradient
-  slopeUpTo zero p = slope 0
-  slopeUpTo (suc k) p = cond (leb (l .start (suc k)) p) (slope (suc k)) (slopeUpTo k p)
+  -- the number of the stretch at a point of the line: the last that starts at or before it; the first starts at 0
+  unfoldable pub stretchUpTo : ℕ → ℕ → ℕ
+  stretchUpTo zero p = 0
+  stretchUpTo (suc k) p = cond (leb (l .start (suc k)) p) (suc k) (stretchUpTo k p)
 
+  abbrev pub stretchAt : ℕ → ℕ
+  stretchAt p = stretchUpTo (l .stretches - 1) p
+
+  -- the gradient at a point
   abbrev pub slopeAt : ℕ → Gradient
-  slopeAt p = slopeUpTo (l .stretches - 1) p
+  slopeAt p = slope (stretchAt p)
 
   -- the least gradient at `from` and the n points behind it
   unfoldable pub leastOf : ℕ → ℕ → Gradient

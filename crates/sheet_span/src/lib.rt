@@ -1,50 +1,29 @@
-// The least gradient over a span of a line. Document 01, "Approach".
-// Takes: the mark of `sheet_mark`, `train_slope`. Gives: `least`, to `query_way`.
+// Which stretch of a line holds a point. Document 01, "Line sheet".
+// Takes: `sheet_fields`. Gives: `stretch_at`, to `sheet_walk`; what the least gradient over a span is (specs/Least.antt) and its laws, to
+// all that rests on it.
 ghost use mathlib.Core.Path.{_≡_};
 ghost use mathlib.Core.Bool.{true};
-ghost use Prim.Native.Nat.{_≤_, _<_};
-ghost use Rattle.train.specs.Gradient.{gradientOf};
+ghost use Prim.Native.Nat.{_<_};
 ghost use Rattle.sheet.specs.Sheet.{lineOf, accepted};
-ghost use Rattle.sheet_span.specs.Least.{LeastOver};
-ghost use Rattle.sheet_span.specs.Pass.{followed};
-use sheet_mark::Mark;
-use train::Gradient;
+ghost use Rattle.sheet_span.specs.Least.{stretchAt, Holds};
 use train::Metre;
 
-// What the pass keeps after a stretch: its own gradient while it starts at or before the span, else the less of both.
-// Signed, as read: a rise and a fall of every stretch make the pass dearer.
-fn follow(least: i32, from: u32, start: u32, g: i32) -> i32
-    ensures { λ r. ⌜ gradientOf r ≡ followed from (gradientOf least) start (gradientOf g) ⌝ }
+// The number of the stretch that holds a point of the line. Starts rise, so half of the stretches left fall away at each look.
+pub fn stretch_at(s: &[u8], point: Metre) -> u32
+    requires { ⌜ (accepted (now s) ≡ true) × (point .0 < lineOf (now s) .end) ⌝ }
+    ensures { λ r. ⌜ (r ≡ stretchAt (lineOf (now (s .entry))) (point .0)) × Holds (lineOf (now (s .entry))) r (point .0) ⌝ }
 {
-    if start <= from {
-        return g;
-    }
-    if least <= g {
-        return least;
-    }
-    g
-}
-
-// The least gradient of the stretches that hold a point from `from` up to but not including `to`.
-pub fn least(s: &[u8], from: Metre, to: Metre) -> Gradient
-    requires { ⌜ (accepted (now s) ≡ true) × (from .0 < to .0) × (to .0 ≤ lineOf (now s) .end) ⌝ }
-    ensures { λ r. ⌜ LeastOver (lineOf (now (s .entry))) (from .0) (to .0) r ⌝ }
-{
-    let first = from.0;
-    let last = to.0;
-    let mut mark = Mark::fresh();
-    let mut least: i32 = 0;
-    loop {
-        let step = mark.step(s);
-        let end = step.end;
-        let start = step.start.0;
-        if end > 0 {
-            return train_slope::gradient_of(least);
+    let place = point.0;
+    let mut low: u32 = 0;
+    let mut high = sheet_fields::stretches(s);
+    while low + 1 < high {
+        let middle = low + (high - low) / 2;
+        let start = sheet_fields::start(s, middle as usize);
+        if start.0 <= place {
+            low = middle;
+        } else {
+            high = middle;
         }
-        if start >= last {
-            return train_slope::gradient_of(least);
-        }
-        least = follow(least, first, start, step.gradient);
-        mark = step.mark;
     }
+    low
 }

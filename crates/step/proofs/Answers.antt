@@ -52,7 +52,7 @@ module _ (k : Coefficients) (t : Train) (g : Gradient) (v v0 : Kmh) where
   pub inputs-then : {rs : List Rule} {cs : List Refusal} → Judges rs cs → Judges (inputRules k t g v v0 ++ rs) (inputs k t g v v0 ++ cs)
   inputs-then j =
       weight-settles (t .weight)
-      then length-settles t
+      then length-settles (t .length .0)
       then (top-settles t and at-least 3 tt (v .0) 330 and at-least 3 tt (v0 .0) 330)
       then at-least 4 tt (v0 .0) (v .0)
       then gradient-settles g

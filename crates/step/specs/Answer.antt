@@ -31,7 +31,7 @@ inputs k t g v v0 = trainRefusals t ++ (speedRefusals v v0 ++ (gradientRefusals 
 abbrev pub inputRules : Coefficients → Train → Gradient → Kmh → Kmh → List Rule
 inputRules k t g v v0 =
     weightRule (t .weight)
-    ∷ lengthRule t
+    ∷ lengthRule (t .length .0)
     ∷ 3 keeps (TopSpeed t × ((v .0 ≤ 330) × (v0 .0 ≤ 330)))
     ∷ 4 keeps (v0 .0 ≤ v .0)
     ∷ gradientRule g

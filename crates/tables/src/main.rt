@@ -8,6 +8,7 @@ mod owns;
 mod sheets;
 mod tails;
 mod text;
+mod walks;
 
 use libc::STDOUT_FILENO;
 
@@ -26,7 +27,8 @@ fn print_line(table: u32, k: usize) {
         9 => owns::own_step_line(k),
         10 => owns::own_row_line(k),
         11 => owns::own_ramp_line(k),
-        _ => owns::own_query_line(k),
+        12 => owns::own_query_line(k),
+        _ => walks::back_line(k),
     }
 }
 
@@ -82,6 +84,11 @@ fn main() {
     );
     print_table(8, 560);
     print_own();
+    io::write_all(
+        STDOUT_FILENO,
+        b"# back place L i signal head step = refusal end stretch i least\n",
+    );
+    print_table(13, 840);
 }
 
 // The same with a train's own coefficients.

@@ -23,7 +23,7 @@ const HEADS: [u32; 4] = [0, 250, 700, 2500];
 const TOPS: [u32; 2] = [60, 330];
 
 // A sheet of eight stretches and four signals, 92 bytes.
-fn write(
+pub fn write(
     start: u32,
     gradient: i16,
     place: u32,

@@ -15,7 +15,7 @@ use Rattle.train.specs.declared.Gradient.{Gradient}
 use Rattle.train.specs.declared.Inertia.{Inertia}
 use Rattle.train.specs.declared.Coefficients.{Coefficients}
 use Rattle.train.specs.Gradient.{Moderate}
-use Rattle.train.specs.Refusal.{Refusal, _gives_, firstOf, weightRefusals, trainRefusals, gradientRefusals, outsideOf, inertiaRefusals, ownRefusals, coefficientRefusals, strongEnough}
+use Rattle.train.specs.Refusal.{Refusal, _gives_, firstOf, weightRefusals, lengthRefusals, trainRefusals, gradientRefusals, outsideOf, inertiaRefusals, ownRefusals, coefficientRefusals, strongEnough}
 use Rattle.train.specs.Judged.{Rule, _keeps_, AllKept, FirstBroken, Judged, weightRule, lengthRule, TopSpeed, trainRules, gradientRule, inertiaRule, coefficientRule, brakeRule}
 use Rattle.train.proofs.Refusals.{first-after, first-before, NoneHolds, Some, only, nothing, own-rising, inertia-only, coefficients-only}
 
@@ -142,8 +142,8 @@ module _ (n : ℕ) (above : T (leb 1 n)) where
 pub weight-settles : (w : ℕ) → Settles (weightRule w) (weightRefusals w)
 weight-settles w = at-least 1 tt 45 w and at-least 1 tt w 160 and fives 1 tt w
 
-pub length-settles : (t : Train) → Settles (lengthRule t) (ltb 1000 (t .length .0) gives 2 ∷ [])
-length-settles t = at-least 2 tt (t .length .0) 1000
+pub length-settles : (length : ℕ) → Settles (lengthRule length) (lengthRefusals length)
+length-settles length = at-least 2 tt length 1000
 
 pub top-settles : (t : Train) → Settles (3 keeps TopSpeed t) (ltb (t .top .0) 1 gives 3 ∷ ltb 330 (t .top .0) gives 3 ∷ [])
 top-settles t = at-least 3 tt 1 (t .top .0) and at-least 3 tt (t .top .0) 330
@@ -197,7 +197,7 @@ pub weight-judges : (w : ℕ) → Judges (weightRule w ∷ []) (weightRefusals w
 weight-judges w = weight-settles w then no-more
 
 pub train-judges : (t : Train) → Judges (trainRules t) (trainRefusals t)
-train-judges t = weight-settles (t .weight) then length-settles t then top-settles t then no-more
+train-judges t = weight-settles (t .weight) then length-settles (t .length .0) then top-settles t then no-more
 
 pub gradient-judges : (g : Gradient) → Judges (gradientRule g ∷ []) (gradientRefusals g)
 gradient-judges g = gradient-settles g then no-more

@@ -40,15 +40,15 @@ abbrev pub weightRule : ℕ → Rule
 weightRule w = 1 keeps ((45 ≤ w) × ((w ≤ 160) × ((n : ℕ) × (w ≡ 5 * n))))
 
 -- 0 to 1,000 m
-abbrev pub lengthRule : Train → Rule
-lengthRule t = 2 keeps (t .length .0 ≤ 1000)
+abbrev pub lengthRule : ℕ → Rule
+lengthRule length = 2 keeps (length ≤ 1000)
 
 -- 1 to 330 km/h
 abbrev pub TopSpeed : Train → Type 0
 TopSpeed t = (1 ≤ t .top .0) × (t .top .0 ≤ 330)
 
 abbrev pub trainRules : Train → List Rule
-trainRules t = weightRule (t .weight) ∷ lengthRule t ∷ 3 keeps TopSpeed t ∷ []
+trainRules t = weightRule (t .weight) ∷ lengthRule (t .length .0) ∷ 3 keeps TopSpeed t ∷ []
 
 abbrev pub gradientRule : Gradient → Rule
 gradientRule g = 5 keeps Moderate g

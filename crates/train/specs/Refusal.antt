@@ -42,9 +42,13 @@ rank = placeIn order
 abbrev pub weightRefusals : ℕ → List Refusal
 weightRefusals w = ltb w 45 gives 1 ∷ ltb 160 w gives 1 ∷ ltb 0 (w % 5) gives 1 ∷ []
 
--- a length of 0 to 1,000, a top speed of 1 to 330
+-- 0 to 1,000 m
+abbrev pub lengthRefusals : ℕ → List Refusal
+lengthRefusals length = ltb 1000 length gives 2 ∷ []
+
+-- a length, and a top speed of 1 to 330
 abbrev pub lengthAndTopRefusals : Train → List Refusal
-lengthAndTopRefusals t = ltb 1000 (t .length .0) gives 2 ∷ ltb (t .top .0) 1 gives 3 ∷ ltb 330 (t .top .0) gives 3 ∷ []
+lengthAndTopRefusals t = lengthRefusals (t .length .0) ++ (ltb (t .top .0) 1 gives 3 ∷ ltb 330 (t .top .0) gives 3 ∷ [])
 
 abbrev pub trainRefusals : Train → List Refusal
 trainRefusals t = weightRefusals (t .weight) ++ lengthAndTopRefusals t

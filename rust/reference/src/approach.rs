@@ -4,7 +4,7 @@
 use crate::ceilings::ceilings;
 use crate::fraction::Fraction;
 use crate::ramp::{greatest_place, ramp, ALLOWANCE, DEAD_TIMES, RISE_TIMES, SPEEDS};
-use crate::sheet::{self, least};
+use crate::sheet::{self, least, Sheet, Signal};
 use crate::step::{exact_p, step, Curve};
 use crate::train::{Train, EP};
 use crate::units::in_millimetres;
@@ -71,8 +71,18 @@ struct Site {
 
 /// Document 02, Card 2, after document 002, section 7.2: a gradient starts at the tail, for the wagons stand on slopes
 /// too. The line has no points before 0, and a train that would reach there is not refused.
-fn tail(train: Train, head: u32) -> u32 {
-    head.saturating_sub(train.length)
+pub(crate) fn tail(length: u32, head: u32) -> u32 {
+    head.saturating_sub(length)
+}
+
+/// The sheet and the signal of this number, for a head that is not beyond it; refusals 7, 8 and 9, in this order.
+pub(crate) fn signal_ahead(bytes: &[u8], number: u32, head: u32) -> Result<(Sheet, Signal), u32> {
+    let sheet = sheet::read(bytes).ok_or(7u32)?;
+    let signal = *sheet.signals.get(number as usize).ok_or(8u32)?;
+    if head > signal.place {
+        return Err(9);
+    }
+    Ok((sheet, signal))
 }
 
 /// Refusals 1, 2, 3, 6, 12, 7, 8 and 9, in this order: Card 5 decides 12 between 6 and 7, by every coefficient of the
@@ -89,13 +99,9 @@ fn site(train: Train, tm: u32, tr: u32, bytes: &[u8], number: u32, head: u32) ->
         return Err(6);
     }
     train.coefficients.check()?;
-    let sheet = sheet::read(bytes).ok_or(7u32)?;
-    let signal = sheet.signals.get(number as usize).ok_or(8u32)?;
+    let (sheet, signal) = signal_ahead(bytes, number, head)?;
     let (place, overlap) = (signal.place, u32::from(signal.overlap));
-    if head > place {
-        return Err(9);
-    }
-    let least_from_tail = |head, to| least(&sheet, tail(train, head), to).expect("a signal on the line").into();
+    let least_from_tail = |head, to| least(&sheet, tail(train.length, head), to).expect("a signal on the line").into();
     Ok(Site {
         overlap: MILLIMETRES * overlap,
         distance: MILLIMETRES * (place - head),

@@ -12,6 +12,7 @@ use crate::train::Train;
 use std::fmt::Display;
 
 mod own;
+mod walk;
 
 /// Whether freight, and whether the electropneumatic brake works.
 const KINDS: [(bool, bool); 4] = [(false, true), (true, true), (false, false), (true, false)];
@@ -330,5 +331,6 @@ pub fn printed() -> String {
     own::row_table(&mut lines);
     own::ramp_table(&mut lines);
     own::query_table(&mut lines);
+    walk::back_table(&mut lines);
     lines.0
 }

@@ -63,9 +63,7 @@ impl Train {
     /// Document 01's refusals 1, 2 and 3 of the train itself, the lowest first; its coefficients are judged later.
     pub fn check(self) -> Result<(), u32> {
         check_braked_weight(self.braked_weight)?;
-        if self.length > LONGEST {
-            return Err(2);
-        }
+        check_length(self.length)?;
         if !(1..=TOP_SPAN).contains(&self.top_speed) {
             return Err(3);
         }
@@ -108,6 +106,14 @@ pub fn check_braked_weight(braked_weight: u32) -> Result<(), u32> {
     let (least, greatest, step) = BRAKED_WEIGHTS;
     if !(least..=greatest).contains(&braked_weight) || !(braked_weight - least).is_multiple_of(step) {
         return Err(1);
+    }
+    Ok(())
+}
+
+/// Document 01's refusal 2.
+pub fn check_length(length: u32) -> Result<(), u32> {
+    if length > LONGEST {
+        return Err(2);
     }
     Ok(())
 }

@@ -35,6 +35,7 @@ fn refusals_in_the_tables() {
         ("own_row", "0 10 12"),
         ("own_ramp", "0 3 5 12"),
         ("own_query", "0 10 12"),
+        ("back", "0 2 7 8 9"),
     ];
     for (table, refusals) in wanted {
         let answers = lines(table)
@@ -86,5 +87,37 @@ fn own_tables_are_whole() {
         for line in lines(table) {
             assert_eq!(line.split(' ').count(), fields, "{line}");
         }
+    }
+}
+
+/// Document 02, Card 3: the walk that is the longest stands in it at every step, and each walk goes on to its "end".
+#[test]
+fn back_table_is_whole() {
+    let heading = "# back place L i signal head step = refusal end stretch i least";
+    let place = PRINTED.lines().position(|line| line == heading).expect(heading);
+    assert!(PRINTED.lines().skip(place + 1).eq(lines("back")));
+    let walks: Vec<_> = lines("back").chunks(10).map(<[_]>::to_vec).collect();
+    assert_eq!(walks.len(), 42 * 2);
+    for line in lines("back") {
+        assert_eq!(line.split(' ').count(), 13, "{line}");
+    }
+    for walk in walks {
+        let last = walk[9];
+        assert!(last.contains(" 4294967295 = ") && !last.contains(" = 0 0 "), "{last}");
+    }
+    let longest = [
+        "0 = 0 0 7 7 7",
+        "1 = 0 0 6 -9 -9",
+        "2 = 0 0 5 -21 -21",
+        "3 = 0 0 4 3 -21",
+        "4 = 0 0 3 -20 -21",
+        "5 = 0 0 2 20 -21",
+        "6 = 0 0 1 -35 -35",
+        "7 = 0 0 0 0 -35",
+        "65536 = 0 1 0 0 0",
+        "4294967295 = 0 1 0 0 0",
+    ];
+    for line in longest.map(|line| format!("back 700 0 -35 3 0 {line}")) {
+        assert!(lines("back").contains(&line.as_str()), "{line}");
     }
 }

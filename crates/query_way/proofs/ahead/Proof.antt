@@ -1,4 +1,4 @@
--- `ahead`: the span begins at the tail and ends behind the signal's own point.
+-- `ahead`: the walk from the signal's own point to the tail.
 use borrow.Author.Needs.{needs}
 use denote.Ref.{now}
 use mathlib.Core.Path.{_≡_, subst}
@@ -12,18 +12,15 @@ use Rattle.query_way.proofs.Ways.{slope-of}
 use Rattle.query_way.proofs.ahead.Statement.{statement}
 use Rattle.query_way.proofs.ahead.Tie as tie
 
-add-end : tie.Need-add-end
-add-end c = let s = c .before .before in let e = headed-of _ (s .pre .0) .1 .counts .ends in omega (arith, s .pre .2)
-
 tail-requires : tie.Need-tail-requires
 tail-requires c κs = search needs
 
 least-requires : tie.Need-least-requires
-least-requires c κs = let s = c .before .before .before in (s .pre .0, omega (arith, c .tail .ensures, s .pre .1), omega (arith, s .pre .2))
+least-requires c κs = let s = c .before .before in (s .pre .0, omega (arith, c .tail .ensures, s .pre .1), s .pre .2)
 
 returns : tie.Need-returns
 returns c =
-    let s = c .before .before .before .before in
+    let s = c .before .before .before in
     let a = s .args in
     let l = lineOf (now (a .s)) in
     let from : c .before .tail .result .0 ≡ tailOf (a .head .0) (a .length .0) = c .before .tail .ensures in
@@ -31,4 +28,4 @@ returns c =
     slope-of l (tailOf (a .head .0) (a .length .0)) (a .place .0 + 1) _ (headed-of _ (s .pre .0) .1) (subst (λ x. LeastOver l x (a .place .0 + 1) (c .least .result)) from e)
 
 pub ahead-spec : {M : Type 1} → statement M
-ahead-spec = tie.close (tie.spec add-end tail-requires least-requires returns)
+ahead-spec = tie.close (tie.spec tail-requires least-requires returns)

@@ -1,0 +1,2 @@
+mod Answers
+pub mod Ahead
