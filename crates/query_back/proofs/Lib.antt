@@ -1,2 +1,3 @@
 mod Answers
+mod Example
 pub mod Ahead

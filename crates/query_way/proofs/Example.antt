@@ -15,7 +15,7 @@ use Rattle.query_way.specs.declared.Way.{Way}
 use Rattle.query_way.specs.Way.{pastOf, wayOf}
 
 -- stretches from 0 (10), 3 (in these two bytes), 6 (3) and 9 (-20, EC FF); a signal at 6 with an overlap of 3; line end 12
-abbrev line : ℕ → ℕ → List ℕ
+abbrev pub line : ℕ → ℕ → List ℕ
 line low high =
     4 ∷ 0 ∷ 1 ∷ 0 ∷ 20 ∷ 0 ∷ 0 ∷ 0 ∷ 44 ∷ 0 ∷ 0 ∷ 0 ∷ 50 ∷ 0 ∷ 0 ∷ 0 ∷ 12 ∷ 0 ∷ 0 ∷ 0
     ∷ 0 ∷ 0 ∷ 0 ∷ 0 ∷ 10 ∷ 0
@@ -25,7 +25,7 @@ line low high =
     ∷ 6 ∷ 0 ∷ 0 ∷ 0 ∷ 3 ∷ 0 ∷ []
 
 -- with a fall of 5 (FB FF) before the signal, and with a rise of 4 there
-abbrev hilly : List ℕ
+abbrev pub hilly : List ℕ
 hilly = line 251 255
 
 abbrev eased : List ℕ

@@ -1,2 +1,2 @@
 pub mod Ways
-mod Example
+pub mod Example

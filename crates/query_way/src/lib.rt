@@ -26,14 +26,14 @@ pub enum Found {
     Ready(Way),
 }
 
-// The signal of that number, from 0, where the head is not beyond it; or refusal 7, 8 or 9 and zeros.
+// The signal of that number, from 0, where the head is not beyond it; or refusal 7, 8 or 9.
 pub fn signal_ahead(s: &[u8], signal: u32, head: Metre) -> Signal
     ensures { λ r. ⌜ Ahead (now (s .entry)) signal (head .0) r ⌝ }
 {
     let read = sheet_lookup::read_signal(s, signal);
-    let bad = read.refusal;
+    let unread = read.refusal;
     let place = read.place;
-    if bad > 0 {
+    if unread > 0 {
         return read;
     }
     if head.0 > place.0 {

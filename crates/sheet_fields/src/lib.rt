@@ -1,5 +1,6 @@
 // The fields of an accepted sheet, where they stand in the caller's bytes. Document 01, "Line sheet".
-// Takes: an accepted sheet (`sheet`), `sheet_line`. Gives: each field, to `sheet_mark`, `sheet_lookup` and `approach_sheet`.
+// Takes: an accepted sheet (`sheet`), `sheet_line`. Gives: each field, to `sheet_mark`, `sheet_lookup`,
+// `sheet_span`, `sheet_walk` and `approach_sheet`.
 ghost use mathlib.Core.Path.{_≡_};
 ghost use mathlib.Core.Bool.{true};
 ghost use Prim.Native.Nat.{_+_, _*_, _≤_, _<_};

@@ -1,3 +1,3 @@
 pub mod Whole
-pub mod Walk
+mod Walk
 mod Answers

@@ -22,13 +22,6 @@ step-on l m h = simp (lt-ltb (m .next) (l .stretches) h)
 pub step-off : (l : Line) (m : Mark) → l .stretches ≤ m .next → stepOf l m ≡ stepOff m
 step-off l m h = simp (le-ltb (m .next) (l .stretches) h)
 
--- and which it was
-pub on-line : (l : Line) (m : Mark) → stepOf l m .end ≤ 0 → m .next < l .stretches
-on-line l m h = ⊎-elim (λ i. i) (λ i. let e = ap (λ (r : Move). r .end) (step-off l m i) in omega arith) (below (m .next) (l .stretches))
-
-pub off-line : (l : Line) (m : Mark) → 0 < stepOf l m .end → l .stretches ≤ m .next
-off-line l m h = ⊎-elim (λ i. let e = ap (λ (r : Move). r .end) (step-on l m i) in omega arith) (λ i. i) (below (m .next) (l .stretches))
-
 module _ (s : List ℕ) (sheet : accepted s ≡ true) where
   abbrev at : ℕ → Mark
   at k = record { next = k }

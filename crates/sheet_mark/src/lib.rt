@@ -1,5 +1,5 @@
 // The reading mark, which moves stretch by stretch along the sheet. Document 01, "Line sheet".
-// Takes: `sheet`, `sheet_fields`. Gives: the operation `Mark::moved`; to `sheet_span` a move along an accepted sheet (`step`).
+// Takes: `sheet`, `sheet_fields`. Gives: the operation `Mark::moved`, above a move along an accepted sheet (`step`).
 ghost use mathlib.Core.Path.{_≡_};
 ghost use mathlib.Core.Bool.{true};
 ghost use Rattle.sheet.specs.Sheet.{lineOf, accepted};

@@ -1,6 +1,6 @@
 // What the line's gradient and the train's brake do to the speed: document 002, sections 7.2 and 7.3.4.
 // Takes: `train`. Gives: a gradient as a rise or a fall, its pull and the nominal deceleration, to `step`, `step_course`, `ramp`,
-// `ramp_plan`, `sheet_lists` and `sheet_span`.
+// `ramp_plan`, `sheet_lists` and `sheet_walk`.
 ghost use mathlib.Core.Path.{_≡_};
 ghost use Prim.Native.Nat.{_≤_, _^_};
 ghost use Rattle.exact.specs.Fraction.{signed, _over_, _≈q_};

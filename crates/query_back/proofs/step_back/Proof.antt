@@ -64,7 +64,12 @@ returns-3 c =
     let t : c .before .tail .result .0 ≡ tailOf (a .head .0) (a .length .0) = c .before .tail .ensures in
     let z : r .signal-ahead .result .refusal ≡ 0 = omega (arith, e .if2 .left) in
     let f = by-the-sheet (now (a .s)) (a .signal) (a .head .0) (a .length .0) (r .before .if1 .left) ∙ r .signal-ahead .ensures .refused ∙ z in
-    walked (now (a .s)) (a .signal) (a .head .0) (a .length .0) (a .step) _ f (rw (t, p) at (c .step-back .ensures .0)) (rw (t, p) at (c .step-back .ensures .1))
+    let l = lineOf (now (a .s)) in
+    let tail = tailOf (a .head .0) (a .length .0) in
+    let stepped : c .step-back .result ≡ backOn l (c .before .tail .result .0) (r .signal-ahead .result .place .0) (a .step) = c .step-back .ensures .0 in
+    let answer = stepped ∙ ap (λ (x : ℕ). backOn l x (r .signal-ahead .result .place .0) (a .step)) t ∙ ap (λ (x : ℕ). backOn l tail x (a .step)) p in
+    let steps = subst (λ (x : ℕ). Steps (now (a .s)) tail x (a .step) (c .step-back .result)) p (subst (λ (x : ℕ). Steps (now (a .s)) x (r .signal-ahead .result .place .0) (a .step) (c .step-back .result)) t (c .step-back .ensures .1)) in
+    walked (now (a .s)) (a .signal) (a .head .0) (a .length .0) (a .step) _ f answer steps
 
 pub step-back-spec : {M : Type 1} → statement M
 step-back-spec =

@@ -16,7 +16,7 @@ tail-requires : tie.Need-tail-requires
 tail-requires c κs = search needs
 
 least-requires : tie.Need-least-requires
-least-requires c κs = let s = c .before .before in (s .pre .0, omega (arith, c .tail .ensures, s .pre .1), s .pre .2)
+least-requires c κs = let s = c .before .before in (s .pre .0, omega (arith, c .tail .ensures, s .pre .1), omega (arith, s .pre .1, s .pre .2))
 
 returns : tie.Need-returns
 returns c =

@@ -34,7 +34,7 @@ sub-distance : tie.Need-sub-distance
 sub-distance c = stands (c .before .before) .0
 
 ahead-requires : tie.Need-ahead-requires
-ahead-requires c κs = let e = c .before .before in let b = stands e in (held e .sheet, b .0, b .1 .0)
+ahead-requires c κs = let e = c .before .before in let b = stands e in (held e .sheet, omega (arith, b .0), b .1 .0)
 
 past-requires : tie.Need-past-requires
 past-requires c κs = let e = c .before .before .before in (held e .sheet, stands e .1 .1)

@@ -36,7 +36,7 @@ returns-2 c =
     let i = held (c .before .before .before) in
     let a = c .before .before .before .before .before .before .before .args in
     let e = beyond (now (a .s)) (a .signal) (a .head .0) (i .sheet) (i .number) (omega (arith, c .if2 .taken, ap (λ (r : Metre). r .0) (i .place))) in
-    record { refused = e; spans = told (way-judges (now (a .s)) (a .signal) (a .head .0)) (sym e) .1; read = λ z. absurd (let n : 9 ≡ 0 = z in omega arith) }
+    record { refused = e; spans = told (way-judges (now (a .s)) (a .signal) (a .head .0)) (sym e) .1; read = λ z. absurd (omega (arith, z)) }
 
 returns-3 : tie.Need-returns-3
 returns-3 c =

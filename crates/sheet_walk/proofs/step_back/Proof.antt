@@ -90,7 +90,7 @@ returns-2 c =
     let m = toZ-ofZ w32 (w .least) (record { sfits = c .struct-told .given .1 .1 .0 .1 }) in
     let n : i .loop .taken ≡ b .args .step = omega (arith, c .before .loop-test .left, i .loop .inv .1) in
     let e = subst (λ (k : ℕ). record { refusal = 0; end = 0; stretch = w .stretch; gradient = w .gradient; least = w .least } ≡ backOn (lineOf (now (b .args .s))) (b .args .first .0) (b .args .last .0) k) n (at-step a (under i)) in
-    rw (g, m) (e, steps-hold _ a _ _ e)
+    simp (g, m) (e, steps-hold _ a _ _ e)
 
 pub step-back-spec : {M : Type 1} → statement M
 step-back-spec =

@@ -1,6 +1,7 @@
 -- `onward`: the stretch before, and the less of its gradient and the least so far.
 use borrow.Author.Needs.{needs}
 use denote.Ref.{now}
+use lib.IntN.{ℤ}
 use mathlib.Core.Path.{_≡_, refl, ap, _∙_}
 use mir.Syntax.{w32}
 use mir.Val.{toZ, ofZ}
@@ -33,7 +34,7 @@ returns c =
     let read = toZ-ofZ w32 (g .result) (record { sfits = g .ok }) ∙ g .ensures in
     let so-far = toZ-ofZ w32 (w .least) (record { sfits = c .before .before .struct-told .given .1 .1 .0 .1 }) in
     let least : toZ w32 (ofZ w32 (m .result)) ≡ less (l .gradient (w .stretch - 1)) (w .least) =
-    toZ-ofZ w32 (m .result) (record { sfits = m .ok }) ∙ (rw (read, so-far) at (m .ensures)) in
+    toZ-ofZ w32 (m .result) (record { sfits = m .ok }) ∙ m .ensures ∙ ap (λ (z : ℤ). less z (toZ w32 (ofZ w32 (w .least)))) read ∙ ap (less (l .gradient (w .stretch - 1))) so-far in
     rw (read, least) refl
 
 pub onward-spec : {M : Type 1} → statement M
