@@ -17,6 +17,9 @@ example: ## proves what has changed and prints the approach speeds of document 0
 distances: $(designers) ## prints distances, ceilings and ways past a signal of one train
 	$(run) --example distances
 
+walk: $(designers) ## prints a walk along a line from a signal back to a train's tail
+	$(run) --example walk
+
 curves: $(designers) ## draws its braking curves: target/curves.svg
 	$(run) --example curves > target/curves.svg
 
@@ -49,4 +52,4 @@ $(tests): $(call sources,wide_calls)
 	rt staticlib wide_calls
 
 .NOTPARALLEL:
-.PHONY: help example distances curves bench archives test gate ceilings tables clean
+.PHONY: help example distances walk curves bench archives test gate ceilings tables clean

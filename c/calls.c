@@ -1,5 +1,5 @@
 /* Each call, refusal and mark of include/approach.h, as a designer's tool would link it. What is expected is document 01's,
- * or worked out by hand from its formulas and document 02's Card 5. Prints `N passed, M failed`. */
+ * or worked out by hand from its formulas and document 02's cards. Prints `N passed, M failed`. */
 #include "approach.h"
 #include <stdio.h>
 #include <string.h>
@@ -11,6 +11,7 @@ _Static_assert(offsetof(struct approach_train, coefficients) == 16, "its coeffic
 _Static_assert(sizeof(bool) == 1 && offsetof(struct approach_train, electropneumatic) == 1, "its bytes");
 _Static_assert(sizeof(struct approach_distances) == 20, "distances");
 _Static_assert(sizeof(struct approach_move) == 20 && offsetof(struct approach_move, mark) == 16, "move");
+_Static_assert(sizeof(struct approach_back) == 20 && offsetof(struct approach_back, least) == 16, "back");
 _Static_assert(sizeof(struct approach_answer) == 28, "answer");
 _Static_assert(APPROACH_ACCEPTED == 0 && APPROACH_MARK_CURVE == 1 && APPROACH_MARK_RELEASE == 2, "document 01's numbers");
 _Static_assert(APPROACH_LONGEST_SHEET == 20 + 6 * 512 + 6 * 64 && APPROACH_LONGEST_ROW == 331, "the longest sheet and row");
@@ -283,6 +284,45 @@ static void tail(void) {
     expect("query, the tail on the fall", memcmp(&of_201, &on, sizeof on) == 0);
 }
 
+/* A fall of 8 per mille between two rises, and a signal on the second. */
+static struct approach_written hollow(uint8_t *sheet, size_t room) {
+    const uint32_t starts[] = {0, 400, 900}, places[] = {1000};
+    const int16_t gradients[] = {5, -8, 3};
+    const uint16_t overlaps[] = {0};
+    return approach_sheet_write(starts, 3, gradients, 3, places, 1, overlaps, 1, 2000, sheet, room);
+}
+
+/* Every field of a step counts. */
+static void expect_back(const char *name, struct approach_back step, struct approach_back wanted) {
+    expect(name, memcmp(&step, &wanted, sizeof wanted) == 0);
+}
+
+/* Document 02, Card 3: from the signal back to a tail, which is at 400 m where the second stretch starts, and at 399 m. */
+static void walk(void) {
+    const struct approach_back end = {.end = 1};
+    uint8_t sheet[APPROACH_SHEET_LENGTH(3, 1)];
+    const size_t length = hollow(sheet, sizeof sheet).length;
+    expect_back("step 0", approach_sheet_back(sheet, length, 0, 600, 200, 0), (struct approach_back){0, 0, 2, 3, 3});
+    expect_back("step 1", approach_sheet_back(sheet, length, 0, 600, 200, 1), (struct approach_back){0, 0, 1, -8, -8});
+    expect_back("past the tail", approach_sheet_back(sheet, length, 0, 600, 200, 2), end);
+    expect_back("far past it", approach_sheet_back(sheet, length, 0, 600, 200, UINT32_MAX), end);
+    expect_back("step 2", approach_sheet_back(sheet, length, 0, 599, 200, 2), (struct approach_back){0, 0, 0, 5, -8});
+    expect_back("past the line", approach_sheet_back(sheet, length, 0, 599, 1000, 3), end);
+}
+
+/* Each refusal of a step, of two or more the first, and zeros beside it. */
+static void walk_refusals(void) {
+    const struct approach_back too_long = {.refusal = APPROACH_REFUSED_LENGTH}, no_sheet = {.refusal = APPROACH_REFUSED_SHEET};
+    const struct approach_back no_signal = {.refusal = APPROACH_REFUSED_NUMBER}, beyond = {.refusal = APPROACH_REFUSED_HEAD};
+    uint8_t sheet[APPROACH_SHEET_LENGTH(3, 1)];
+    const size_t length = hollow(sheet, sizeof sheet).length;
+    expect_back("step, a train too long", approach_sheet_back(sheet, length - 1, 1, 1001, 1001, 0), too_long);
+    expect_back("step, no sheet", approach_sheet_back(sheet, length - 1, 1, 1001, 1000, 0), no_sheet);
+    expect_back("step, no such signal", approach_sheet_back(sheet, length, 1, 1001, 1000, 0), no_signal);
+    expect_back("step, the head beyond", approach_sheet_back(sheet, length, 0, 1001, 1000, 0), beyond);
+    expect_back("and past the end", approach_sheet_back(sheet, length, 0, 1001, 1000, UINT32_MAX), beyond);
+}
+
 /* The header's constant and the call's answer are document 01's number, or document 02's. */
 static void expect_refusal(uint32_t number, uint32_t constant, uint32_t refusal) {
     char name[16];
@@ -329,6 +369,8 @@ int main(void) {
     sheet_lengths();
     query();
     tail();
+    walk();
+    walk_refusals();
     refusals();
     printf("%d passed, %d failed\n", passed, failed);
     return failed > 0;

@@ -160,6 +160,15 @@ struct approach_move {
     struct approach_mark mark; /* for the next move */
 };
 
+/* A step of the walk from a signal back to a train's tail, stretch by stretch. */
+struct approach_back {
+    uint32_t refusal; /* 2, 7, 8, 9 */
+    uint32_t end;     /* 1 past the stretch that holds the tail, where all else is 0; else 0 */
+    uint32_t stretch; /* its number, from 0 along the sheet */
+    int32_t gradient; /* per mille, positive uphill */
+    int32_t least;    /* per mille: the least gradient of the steps from 0 to this one */
+};
+
 /* What holds the permitted speed of an accepted answer. */
 enum approach_answer_mark {
     /* "curve": the next speed's P distance to the release speed is longer than the way to the signal, or its brake is too weak; or,
@@ -219,6 +228,13 @@ struct approach_signal approach_sheet_signal(const uint8_t *sheet, size_t length
 
 /* The next stretch along the sheet. */
 struct approach_move approach_sheet_next(const uint8_t *sheet, size_t length, struct approach_mark mark);
+
+/* The step of a number, from 0, on the walk from a signal back to the tail of a train; signal, head and tail as in approach_query,
+ * the train's length in metres. Step 0 is the stretch that holds the signal's own point, step k the one k before it, and the last is
+ * the stretch that holds the tail: its least is the gradient on which the query brakes to the release speed. A call checks the sheet,
+ * finds the signal's stretch by halving and walks no more steps than its number. */
+struct approach_back approach_sheet_back(
+    const uint8_t *sheet, size_t length, uint32_t signal, uint32_t head, uint32_t train_length, uint32_t step);
 
 /* The approach to the signal of a number, from 0, with the head at a place in metres. The train brakes to the release speed on
  * the least gradient from its tail to the signal, and past the signal on the least from where its tail is with the head at the

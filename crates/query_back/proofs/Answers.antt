@@ -39,9 +39,9 @@ module _ (s : List ℕ) (signal head length : ℕ) where
   by-the-sheet h = simp (le-ltb 1000 length h)
 
   module _ (n : ℕ) where
-    pub turned-away : (k : ℕ) → first ≡ k → 0 < k → BackAnswers s signal head length n (refused k) s
+    pub back-refused : (k : ℕ) → first ≡ k → 0 < k → BackAnswers s signal head length n (refused k) s
     unfolding backOf
-    turned-away k e h =
+    back-refused k e h =
         record {
           answer = rw (e, ne-eqb k 0 (λ z. omega arith)) refl;
           lent = refused-demand k _ s (refl, (refl, (refl, (refl, (refl, (refl, tt))))));
@@ -58,9 +58,9 @@ module _ (s : List ℕ) (signal head length : ℕ) where
         go true = refl
         go false = refl
 
-    pub walked : (r : Back) → first ≡ 0 → r ≡ backOn (lineOf s) (tailOf head length) (lineOf s .place signal) n → Steps s (tailOf head length) (lineOf s .place signal) n r → BackAnswers s signal head length n r s
+    pub back-given : (r : Back) → first ≡ 0 → r ≡ backOn (lineOf s) (tailOf head length) (lineOf s .place signal) n → Steps s (tailOf head length) (lineOf s .place signal) n r → BackAnswers s signal head length n r s
     unfolding backOf
-    walked r e i steps =
+    back-given r e i steps =
         let z : r .refusal ≡ 0 = ap (λ (r : Back). r .refusal) i ∙ given in
         record {
           answer = rw e i;

@@ -1,8 +1,10 @@
 //! The distances of one train, the ceilings of the speeds it comes from, and how far it gets past a closed signal.
+mod table;
+
 use approach::{ceilings, ramp, step, Brake, Coefficients, Hundredth, Kmh, Metre, PerMille, Refusal, Times, Train};
 use std::env;
-use std::fmt::Display;
 use std::process::ExitCode;
+use table::{figure, line};
 
 const TRAIN: Train = Train {
     brake: Brake::Passenger,
@@ -12,15 +14,6 @@ const TRAIN: Train = Train {
     top_speed: Kmh(160),
     coefficients: Coefficients::FIRST_VALUES,
 };
-
-/// The figure of a quantity; its unit stands over the column.
-fn figure(quantity: impl Display) -> String {
-    quantity.to_string().split(' ').take(1).collect()
-}
-
-fn line(cells: &[impl Display]) -> String {
-    cells.iter().map(|cell| format!("{cell:>10}")).collect::<String>() + "\n"
-}
 
 fn braked() -> Result<String, Refusal> {
     let mut out =
@@ -72,17 +65,7 @@ fn main() -> Result<ExitCode, Refusal> {
 #[cfg(test)]
 mod tests {
     use super::*;
-
-    /// The table's lines from its headings on, each of which has a name and a unit for every column; columns are 10 wide.
-    fn columns(table: &str, headings: &[&str]) {
-        let (heads, lines): (Vec<&str>, Vec<&str>) = table.lines().partition(|line| headings.contains(line));
-        assert_eq!(heads, headings);
-        let width = headings[0].chars().count();
-        let figures: Vec<&str> = lines.into_iter().filter(|line| line.starts_with(' ')).collect();
-        assert!(figures.len() > 3, "{table}");
-        assert!(figures.iter().all(|line| line.chars().count() == width), "{table}");
-        assert!(figures.iter().all(|line| 10 * line.split_whitespace().count() == width), "{table}");
-    }
+    use table::tests::columns;
 
     #[test]
     fn every_column_has_a_heading() {
@@ -97,10 +80,5 @@ mod tests {
             "      km/h         \u{2030}         s         s         m         s",
         ];
         columns(&past_the_signal().expect("accepted times"), &stops);
-    }
-
-    #[test]
-    fn figures_without_units() {
-        assert_eq!([figure(Kmh(90)), figure(PerMille(-5)), figure(Hundredth(460))], ["90", "-5", "4.60"]);
     }
 }

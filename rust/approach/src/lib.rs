@@ -58,6 +58,7 @@ pub mod raw;
 mod refusal;
 pub mod sheet;
 mod units;
+mod walk;
 
 pub use coefficients::{first_values, Coefficients, Inertia};
 pub use models::{
@@ -67,6 +68,7 @@ pub use models::{
 pub use query::{query, Approach, Mark};
 pub use refusal::Refusal;
 pub use units::{Ceiling, Hundredth, Kmh, Metre, Millimetre, Millisecond, PerMille};
+pub use walk::{step_back, walk, StepBack, Walk};
 
 /// The README's example is run, too.
 #[cfg(doctest)]

@@ -184,6 +184,22 @@ pub struct Move {
     pub mark: Mark,
 }
 
+/// A step of the walk from a signal back to a train's tail.
+#[repr(C)]
+#[derive(Clone, Copy, Debug, PartialEq, Eq)]
+pub struct Back {
+    /// 0, or a refusal's number.
+    pub refusal: u32,
+    /// 1 past the stretch that holds the tail; else 0.
+    pub end: u32,
+    /// Its number along the sheet.
+    pub stretch: u32,
+    /// Per mille.
+    pub gradient: i32,
+    /// Per mille, of the steps from 0 to this one.
+    pub least: i32,
+}
+
 /// Which of the four distances; C has a call for each.
 #[derive(Clone, Copy, Debug, PartialEq, Eq)]
 pub enum Curve {
@@ -228,6 +244,14 @@ extern "C" {
     fn approach_sheet_stretch(sheet: *const u8, length: usize, number: u32) -> Stretch;
     fn approach_sheet_signal(sheet: *const u8, length: usize, number: u32) -> Signal;
     fn approach_sheet_next(sheet: *const u8, length: usize, mark: Mark) -> Move;
+    fn approach_sheet_back(
+        sheet: *const u8,
+        length: usize,
+        signal: u32,
+        head: u32,
+        train_length: u32,
+        step: u32,
+    ) -> Back;
     fn approach_query(
         train: Train,
         tm: u32,
@@ -314,6 +338,11 @@ pub fn sheet_signal(sheet: &[u8], number: u32) -> Signal {
 /// The next stretch along the sheet.
 pub fn sheet_next(sheet: &[u8], mark: Mark) -> Move {
     unsafe { approach_sheet_next(sheet.as_ptr(), sheet.len(), mark) }
+}
+
+/// The step of a number, from 0, on the walk from the signal of a number back to the tail; head and train length in metres.
+pub fn sheet_back(sheet: &[u8], signal: u32, head: u32, train_length: u32, step: u32) -> Back {
+    unsafe { approach_sheet_back(sheet.as_ptr(), sheet.len(), signal, head, train_length, step) }
 }
 
 /// The approach to the signal of a number; TM and TR in hundredths of a second, the head in metres.

@@ -21,6 +21,7 @@ fn files_shown() {
         ("c", include_str!("../../../c/example.c")),
         ("text", include_str!("../examples/makers-table.txt")),
         ("text", include_str!("../examples/makers-table.out")),
+        ("text", include_str!("../examples/walk.out")),
         ("text", include_str!("../../../crates/approach_sheet/stdout")),
     ] {
         assert!(README.contains(&format!("```{kind}\n{file}```\n")), "{file}");

@@ -1,38 +1,19 @@
 //! The climbs at every edge: queries, ramp answers and distances that a millimetre or a millisecond decides, or less. The
 //! reference finds the inputs, and each kind of them is counted, so that no test passes by finding none.
 use approach::{raw, Approach, Brake, Inertia, Kmh, Mark, Metre, Train};
-use inputs::{on_paper, Line, Query, Random, EXAMPLE_TRAIN};
+use inputs::{on_paper, Found, Line, Query, Random, EXAMPLE_TRAIN};
 use reference::coefficients::FIRST_VALUES;
 use reference::fraction::Fraction;
 use reference::ramp::{keeps_promise, motion, ramp, Phase, Stop};
 use reference::step::{exact, exact_p, row, step, Curve};
 use reference::train::{di, dr};
-use std::collections::{BTreeMap, BTreeSet};
-use std::fmt::Debug;
+use std::collections::BTreeSet;
 
 const TOP: u32 = 330;
 /// Where the one signal stands, farther on than any P distance is long.
 const PLACE: u32 = 200_000;
 /// The reference's first values of what the ramp takes.
 const INERTIA: reference::coefficients::Inertia = FIRST_VALUES.inertia;
-
-/// How often each kind was found.
-struct Found<K>(BTreeMap<K, u32>);
-
-impl<K: Ord + Debug> Found<K> {
-    fn none() -> Found<K> {
-        Found(BTreeMap::new())
-    }
-
-    fn note(&mut self, kind: K) {
-        *self.0.entry(kind).or_default() += 1;
-    }
-
-    /// So many kinds, and each of them at least so often.
-    fn hold(&self, kinds: usize, least: u32) {
-        assert!(self.0.len() == kinds && self.0.values().all(|&count| count >= least), "{:?}", self.0);
-    }
-}
 
 /// The metres that are 1 mm at most from a distance in millimetres, and by how many millimetres they are over it.
 fn hair(distance: u32) -> Option<(u32, i32)> {

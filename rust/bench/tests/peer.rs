@@ -1,9 +1,9 @@
 //! The peers, with which the library's times are compared, against the reference: they must not be fast by being wrong.
-use approach::raw::{Answer, Distances, Limits, Signal, Stop, CURVES};
+use approach::raw::{Answer, Back, Distances, Limits, Signal, Stop, CURVES};
 use approach::{Coefficients, Kmh, Train};
 use bench::plain::sheet;
 use bench::{own, plain};
-use inputs::{inertia_on_paper, on_paper, Query, Random};
+use inputs::{inertia_on_paper, on_paper, Query, Random, Walked};
 use reference::step::Curve;
 
 /// The first values in every other round, as in the benchmark.
@@ -112,6 +112,38 @@ fn sheets() {
         seen[expected.refusal as usize] += 1;
     }
     assert!([0, 7, 8].iter().all(|&refusal| seen[refusal] > 500), "{seen:?}");
+}
+
+/// The answer of both peers, which is the reference's.
+fn both_back(w: &Walked, step: u32) -> Back {
+    let none = Back { refusal: 0, end: 0, stretch: 0, gradient: 0, least: 0 };
+    let expected = match reference::walk::back(&w.sheet, w.signal, w.head, w.length, step) {
+        Ok(Some(reference::walk::Step { stretch, gradient, least })) => {
+            Back { stretch, gradient: gradient.into(), least: least.into(), ..none }
+        }
+        Ok(None) => Back { end: 1, ..none },
+        Err(refusal) => Back { refusal, ..none },
+    };
+    for back in [plain::walk::back, own::walk::back] {
+        assert_eq!(back(&w.sheet, w.signal, w.head, w.length, step), expected, "step {step} of {w:?}");
+    }
+    expected
+}
+
+#[test]
+fn steps_back() {
+    let mut random = Random(97);
+    let (mut seen, mut ended) = ([0; 12], 0);
+    for _ in 0..6_000 {
+        let w = random.any_walk();
+        for step in [0, random.below_any(&[8, 512]), u32::MAX] {
+            let answer = both_back(&w, step);
+            seen[answer.refusal as usize] += 1;
+            ended += answer.end;
+        }
+    }
+    assert!([0, 2, 7, 8, 9].iter().all(|&refusal| seen[refusal] > 500), "{seen:?}");
+    assert!(ended > 5_000 && seen[0] - ended > 5_000, "{ended} ended of {seen:?}");
 }
 
 /// The answer of both peers, which is the reference's. Of train, coefficients and times they do not judge.

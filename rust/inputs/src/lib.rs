@@ -1,11 +1,15 @@
-//! Inputs for tests and benchmarks, the same in every run: trains, lines and queries, mostly such as are accepted. A train has the
-//! first values, where it is not asked for with coefficients of its own.
+//! Inputs for tests and benchmarks, the same in every run: trains, lines, queries and walks, mostly such as are accepted. A train
+//! has the first values, where it is not asked for with coefficients of its own.
 mod coefficients;
+mod seen;
+mod walk;
 
 use approach::sheet::{self, write, Lists};
 use approach::{query, Approach, Brake, Coefficients, Hundredth, Kmh, Metre, Refusal, Times, Train};
 pub use coefficients::{in_the_ramp, inertia_on_paper, on_paper, Span, SPANS};
+pub use seen::{lent, Found};
 use std::collections::BTreeSet;
+pub use walk::Walked;
 
 /// Document 01's example of a sheet, and the train of the program that prints it.
 pub const EXAMPLE: [u8; 38] = [
@@ -106,6 +110,26 @@ impl Random {
             3 => least,
             4 => most,
             _ => least + self.below((most - least + 1) as u64) as u32,
+        }
+    }
+
+    /// The number itself, now and then the first outside its span or one above that.
+    pub fn or_outside(&mut self, number: u32, first: u32) -> u32 {
+        match self.below(24) {
+            0 => first.saturating_add(self.below_any(&[1, 100, u32::MAX])),
+            _ => number,
+        }
+    }
+
+    /// Bytes that are mostly left as they are.
+    pub fn damage(&mut self, sheet: &mut Vec<u8>) {
+        let any = self.below(sheet.len() as u64) as usize;
+        match self.below(64) {
+            0 => sheet.push(0),
+            1 => sheet.truncate(any),
+            2 => sheet[any % 20] ^= 1 + self.below(255) as u8,
+            3..=5 => sheet[any] ^= 1 + self.below(255) as u8,
+            _ => (),
         }
     }
 

@@ -10,7 +10,7 @@ use Rattle.sheet.proofs.Kept.{headed-of}
 use Rattle.sheet_walk.specs.Back.{backOn, Steps}
 use Rattle.query_way.specs.Way.{tailOf}
 use Rattle.query_way.specs.Find.{IsAhead}
-use Rattle.query_back.proofs.Answers.{too-long, by-the-sheet, turned-away, walked}
+use Rattle.query_back.proofs.Answers.{too-long, by-the-sheet, back-refused, back-given}
 use Rattle.query_back.proofs.step_back.Statement.{statement}
 use Rattle.query_back.proofs.step_back.Tie as tie
 
@@ -25,7 +25,7 @@ returns : tie.Need-returns
 returns c =
     let a = c .before .before .before .before .args in
     rw (c .refused-with .ensures)
-    (turned-away (now (a .s)) (a .signal) (a .head .0) (a .length .0) (a .step) 2 (too-long (now (a .s)) (a .signal) (a .head .0) (a .length .0) (c .before .if1 .taken)) (omega arith))
+    (back-refused (now (a .s)) (a .signal) (a .head .0) (a .length .0) (a .step) 2 (too-long (now (a .s)) (a .signal) (a .head .0) (a .length .0) (c .before .if1 .taken)) (omega arith))
 
 signal-ahead-requires : tie.Need-signal-ahead-requires
 signal-ahead-requires c κs = search needs
@@ -38,7 +38,7 @@ returns-2 c =
     let r = c .before .before .before in
     let a = r .before .before .before .before .args in
     let e = by-the-sheet (now (a .s)) (a .signal) (a .head .0) (a .length .0) (r .before .if1 .left) ∙ r .signal-ahead .ensures .refused in
-    rw (c .refused-with2 .ensures) (turned-away (now (a .s)) (a .signal) (a .head .0) (a .length .0) (a .step) _ e (c .before .if2 .taken))
+    rw (c .refused-with2 .ensures) (back-refused (now (a .s)) (a .signal) (a .head .0) (a .length .0) (a .step) _ e (c .before .if2 .taken))
 
 tail-requires : tie.Need-tail-requires
 tail-requires c κs = search needs
@@ -69,7 +69,7 @@ returns-3 c =
     let stepped : c .step-back .result ≡ backOn l (c .before .tail .result .0) (r .signal-ahead .result .place .0) (a .step) = c .step-back .ensures .0 in
     let answer = stepped ∙ ap (λ (x : ℕ). backOn l x (r .signal-ahead .result .place .0) (a .step)) t ∙ ap (λ (x : ℕ). backOn l tail x (a .step)) p in
     let steps = subst (λ (x : ℕ). Steps (now (a .s)) tail x (a .step) (c .step-back .result)) p (subst (λ (x : ℕ). Steps (now (a .s)) x (r .signal-ahead .result .place .0) (a .step) (c .step-back .result)) t (c .step-back .ensures .1)) in
-    walked (now (a .s)) (a .signal) (a .head .0) (a .length .0) (a .step) _ f answer steps
+    back-given (now (a .s)) (a .signal) (a .head .0) (a .length .0) (a .step) _ f answer steps
 
 pub step-back-spec : {M : Type 1} → statement M
 step-back-spec =

@@ -1,12 +1,7 @@
 //! A query asked of the library and of the reference, on sheets of few stretches and signals.
 use approach::{raw, Approach, Ceilings, Kmh, Mark, Refusal};
-use inputs::{on_paper, Line, Query};
+use inputs::{lent, on_paper, Line, Query};
 use reference::approach::{approach, keeps_demand};
-use std::hint::black_box;
-
-/// What stands in as many bytes on either side of a lent sheet.
-const UNTOUCHED: u8 = 0xa5;
-const GUARD: usize = 7;
 
 /// The answer as the reference has it.
 fn on_reference(answer: Approach) -> reference::approach::Answer {
@@ -19,13 +14,9 @@ fn on_reference(answer: Approach) -> reference::approach::Answer {
     reference::approach::Answer { release, permitted, mark, ceilings: [w.0, sbi.0, ebi.0] }
 }
 
-/// The library's answer from a sheet that lies between other bytes, all of which it leaves as they are.
+/// The library's answer from a lent sheet, which it leaves as it is.
 pub fn answer(q: &Query) -> Result<Approach, u32> {
-    let guard = [UNTOUCHED; GUARD];
-    let memory = [&guard, &q.sheet[..], &guard].concat();
-    let answer = q.on(&memory[GUARD..GUARD + q.sheet.len()]);
-    assert_eq!(black_box(memory), [&guard, &q.sheet[..], &guard].concat(), "the query has changed bytes: {q:?}");
-    answer.map_err(Refusal::number)
+    lent(&q.sheet, |sheet| q.on(sheet)).map_err(Refusal::number)
 }
 
 /// Beside a refusal stand zeros.

@@ -32,31 +32,11 @@ fn signal_and_head(random: &mut Random, line: &Line) -> (u32, u32) {
     (signal as u32, place - random.below_any(&[1, 300, 6000]).min(place))
 }
 
-/// Mostly left as they are.
-fn damage(random: &mut Random, sheet: &mut Vec<u8>) {
-    let any = random.below(sheet.len() as u64) as usize;
-    match random.below(64) {
-        0 => sheet.push(0),
-        1 => sheet.truncate(any),
-        2 => sheet[any % 20] ^= 1 + random.below(255) as u8,
-        3..=5 => sheet[any] ^= 1 + random.below(255) as u8,
-        _ => (),
-    }
-}
-
 /// TM and TR, short ones not rare.
 fn times(random: &mut Random) -> (u32, u32) {
     match random.below(2) {
         0 => (random.near(0, 200), random.near(1, 400)),
         _ => (random.near(0, 2000), random.near(1, 3000)),
-    }
-}
-
-/// The number itself, now and then the first outside its span or one above that.
-fn or_outside(random: &mut Random, number: u32, first: u32) -> u32 {
-    match random.below(24) {
-        0 => first.saturating_add(random.below_any(&[1, 100, u32::MAX])),
-        _ => number,
     }
 }
 
@@ -66,13 +46,13 @@ fn any_query(random: &mut Random) -> Query {
     let (signal, head) = signal_and_head(random, &line);
     let past = line.places[signal as usize] + 1;
     let mut sheet = line.written();
-    damage(random, &mut sheet);
+    random.damage(&mut sheet);
     let (mut train, (tm, tr)) = (random.train(), times(random));
     if random.below(3) == 0 {
         train.top_speed = Kmh(1 + random.below_any(&[30, 120]));
     }
-    let signal = or_outside(random, signal, line.places.len() as u32);
-    Query { train, tm, tr, sheet, signal, head: or_outside(random, head, past) }
+    let signal = random.or_outside(signal, line.places.len() as u32);
+    Query { train, tm, tr, sheet, signal, head: random.or_outside(head, past) }
 }
 
 /// What an accepted answer may look like: each has to be seen.

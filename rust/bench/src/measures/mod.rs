@@ -4,4 +4,5 @@ pub mod ramp;
 pub mod sheet;
 pub mod step;
 pub mod timing;
+pub mod walk;
 pub mod wide;

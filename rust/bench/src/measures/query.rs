@@ -5,7 +5,7 @@ use approach::{Brake, Coefficients, Kmh, Metre, Train};
 use bench::{own, plain};
 use inputs::{Line, Query, Random, EXAMPLE, EXAMPLE_TRAIN};
 
-const QUERIES: usize = 300;
+pub(super) const QUERIES: usize = 300;
 
 const FREIGHT: Train = Train {
     brake: Brake::Freight,
@@ -29,7 +29,7 @@ fn ways() -> [Way<Query>; 3] {
 }
 
 /// The query with other braked weights, lengths and times, so that no branch is known beforehand.
-fn varied(random: &mut Random, query: &Query) -> Query {
+pub(super) fn varied(random: &mut Random, query: &Query) -> Query {
     let mut below = |n| random.below(n) as u32;
     let train = Train { braked_weight: 80 + 5 * below(17), length: Metre(below(1001)), ..query.train };
     Query { train, tm: below(2001), tr: 1 + below(3000), ..query.clone() }
@@ -37,7 +37,7 @@ fn varied(random: &mut Random, query: &Query) -> Query {
 
 /// 512 stretches of 900 m but the last, and 64 signals, the last of them in the last stretch with the overlap behind it:
 /// asked for from the line's beginning.
-fn largest(gradient: i16, overlap: u16) -> Query {
+pub(super) fn largest(gradient: i16, overlap: u16) -> Query {
     let line = Line {
         starts: (0..512).map(|number| 900 * number).collect(),
         gradients: (0..512).map(|number| gradient + number % 3).collect(),
@@ -49,7 +49,7 @@ fn largest(gradient: i16, overlap: u16) -> Query {
 }
 
 /// 20 stretches of 500 m with a signal in each, of which the 16th is asked for from 3,000 m before it.
-fn twenty() -> Query {
+pub(super) fn twenty() -> Query {
     let line = Line {
         starts: (0..20).map(|number| 500 * number).collect(),
         gradients: (0..20).map(|number| number * 7 % 19 - 9).collect(),

@@ -3,3 +3,4 @@
 pub mod query;
 pub mod ramp;
 pub mod step;
+pub mod walk;

@@ -1,9 +1,9 @@
-//! The approach query: the plain one's check, one pass along the stretches for each way, and climbs that ask the exact test only
+//! The approach query: the plain one's check, a walk back along the stretches for each way, and climbs that ask the exact test only
 //! above a speed that is sure.
-use super::{ramp, step};
+use super::{ramp, step, walk};
 use crate::plain;
 use crate::plain::query::{answer_by, Plan, FASTEST_CREEP};
-use crate::plain::sheet::{split, Entry};
+use crate::plain::sheet::Entry;
 use crate::plain::step::{fits, Course};
 use approach::raw::{Answer, Train};
 
@@ -26,21 +26,10 @@ fn climb(sure: u32, end: u32, fits: impl Fn(u32) -> bool) -> u32 {
 pub(crate) struct Own;
 
 impl Plan for Own {
-    /// Along the stretches from the first: its own gradient while a stretch starts at or before the span, then the less of both.
+    /// By the walk back from the span's last point.
     #[inline(always)]
     fn least(stretches: &[Entry], from: u32, to: u32) -> i32 {
-        let mut least = 0;
-        for stretch in stretches {
-            let (start, gradient) = split(stretch);
-            if start >= to {
-                break;
-            }
-            let gradient = i16::from_le_bytes(gradient).into();
-            if start <= from || gradient < least {
-                least = gradient;
-            }
-        }
-        least
+        walk::least(stretches, from, to - 1)
     }
 
     /// A stop is surely within the overlap where a faster one is.

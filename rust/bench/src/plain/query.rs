@@ -50,9 +50,7 @@ impl Plan for Plain {
 
 #[inline(always)]
 fn answered<P: Plan>(train: Train, tm: u32, tr: u32, sheet: &[u8], signal: u32, head: u32) -> Result<Answer, u32> {
-    let (stretches, signals) = sheet::checked(sheet).ok_or(7u32)?;
-    let (place, overlap) = sheet::numbered(signals, signal).ok_or(8u32)?;
-    let metres = place.checked_sub(head).ok_or(9u32)?;
+    let (stretches, place, overlap) = sheet::signal_ahead(sheet, signal, head)?;
     let tail = |head: u32| head.saturating_sub(train.length);
     let mut release = 0;
     if overlap > 0 {
@@ -66,7 +64,7 @@ fn answered<P: Plan>(train: Train, tm: u32, tr: u32, sheet: &[u8], signal: u32, 
     if !step::strong(course, release, release) {
         return Err(10);
     }
-    let last = P::permitted(course, release, train.top_speed, metres);
+    let last = P::permitted(course, release, train.top_speed, place - head);
     let (permitted, mark) = last.map_or((release, RELEASE), |v| (v, CURVE));
     let [w, sbi, ebi] = worked_out(permitted);
     Ok(Answer { refusal: 0, release, permitted, mark, w, sbi, ebi })

@@ -65,6 +65,23 @@ pub(crate) fn numbered(signals: &[Entry], number: u32) -> Option<(u32, u32)> {
     Some((place, u16::from_le_bytes(overlap) as u32))
 }
 
+/// The stretches, with place and overlap of a signal that the head is not beyond; else 7, 8 or 9.
+#[inline(always)]
+pub(crate) fn signal_ahead(sheet: &[u8], number: u32, head: u32) -> Result<(&[Entry], u32, u32), u32> {
+    let (stretches, signals) = checked(sheet).ok_or(7u32)?;
+    let (place, overlap) = numbered(signals, number).ok_or(8u32)?;
+    if head > place {
+        return Err(9);
+    }
+    Ok((stretches, place, overlap))
+}
+
+/// A stretch's gradient in per mille.
+#[inline(always)]
+pub(crate) fn gradient(stretch: &Entry) -> i32 {
+    i16::from_le_bytes(split(stretch).1).into()
+}
+
 /// The least gradient over the points `from` up to but not including `to`, of which there is one at least.
 #[inline(always)]
 pub(crate) fn least(stretches: &[Entry], from: u32, to: u32) -> i32 {
