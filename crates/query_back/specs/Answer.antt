@@ -27,7 +27,7 @@ module _ (s : List ℕ) (signal head length : ℕ) where
   abbrev pub backRules : List Rule
   backRules = lengthRule length ∷ wayRules s signal head
 
-  -- step n from 0: the walk is from the signal to the tail of a train with its head there
+  -- step n, from 0, of the walk from the signal to the train's tail
   unfoldable pub backOf : ℕ → Back
   backOf n =
       let refusal = firstOf backRefusals in

@@ -1,16 +1,15 @@
 -- What the code finds: a refusal, or the way, whose gradients are of the sheet's span.
 use mathlib.Core.Path.{_≡_}
-use mathlib.Core.Bool.{true}
 use mathlib.Core.List.{List}
 use Prim.Native.Nat.{ℕ, _+_, _≤_, _<_}
 use Rattle.train.specs.declared.Gradient.{Gradient}
 use Rattle.train.specs.Gradient.{Moderate}
-use Rattle.train.specs.Units.{metres}
 use Rattle.train.specs.Refusal.{firstOf}
 use Rattle.train.specs.Judged.{Judged}
 use Rattle.sheet_line.specs.Line.{Line}
-use Rattle.sheet.specs.Sheet.{lineOf, accepted}
+use Rattle.sheet.specs.Sheet.{lineOf}
 use Rattle.sheet_lookup.specs.declared.Signal.{Signal}
+use Rattle.sheet_lookup.specs.Counts.{IsSignal}
 use Rattle.sheet_span.specs.Least.{LeastOver}
 use Rattle.query_way.specs.declared.Way.{Way}
 use Rattle.query_way.specs.declared.Found.{Found}
@@ -36,19 +35,12 @@ abbrev pub number : Found → ℕ
 number (Refused n) = n
 number (Ready w) = 0
 
--- a signal of the sheet that the head is not beyond
-pub record IsAhead (s : List ℕ) (signal head : ℕ) (r : Signal) : Type 0 where
-  pub sheet : accepted s ≡ true
-  pub number : signal < lineOf s .signals
-  pub place : r .place ≡ metres (lineOf s .place signal)
-  pub overlap : r .overlap ≡ metres (lineOf s .overlap signal)
-  pub reached : head ≤ lineOf s .place signal
-
--- it, or a refusal
+-- a signal of the sheet that the head is not beyond, or a refusal
 pub record Ahead (s : List ℕ) (signal head : ℕ) (r : Signal) : Type 0 where
   pub refused : refusal s signal head ≡ r .refusal
   pub spans : Judged (wayRules s signal head) (r .refusal)
-  pub read : r .refusal ≡ 0 → IsAhead s signal head r
+  pub read : r .refusal ≡ 0 → IsSignal s signal r
+  pub reached : r .refusal ≡ 0 → head ≤ lineOf s .place signal
 
 module _ (s : List ℕ) (signal head length : ℕ) where
   pub record IsWay (w : Way) : Type 0 where

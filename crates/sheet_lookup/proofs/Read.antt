@@ -1,24 +1,18 @@
 -- A signal that is read: its refusal is the first that applies, and one without a refusal is the sheet's.
 use mathlib.Core.Path.{_≡_, refl, sym, _∙_}
-use mathlib.Core.Bool.{true, cond}
+use mathlib.Core.Bool.{cond}
 use mathlib.Core.List.{List}
-use Prim.Native.Nat.{ℕ, zero, suc, _<_}
+use Prim.Native.Nat.{ℕ, zero, suc}
 use borrow.Author.Tests.{leb-false, ne-eqb, not-false}
 use lib.Dec.{eqb}
 use native.Mathlib.Omega.{arith}
 use Rattle.train.specs.Refusal.{firstOf}
 use Rattle.train.specs.Units.{metres}
 use Rattle.train.proofs.Refusals.{none-holds}
-use Rattle.sheet.specs.Sheet.{lineOf, accepted}
+use Rattle.sheet.specs.Sheet.{lineOf}
 use Rattle.sheet_lookup.specs.Answer.{readRefusals, signalOf}
+use Rattle.sheet_lookup.specs.Counts.{IsSignal}
 use Rattle.sheet_lookup.specs.declared.Signal.{Signal}
-
--- the fields of the k-th signal
-pub record IsSignal (s : List ℕ) (k : ℕ) (r : Signal) : Type 0 where
-  pub sheet : accepted s ≡ true
-  pub number : k < lineOf s .signals
-  pub place : r .place ≡ metres (lineOf s .place k)
-  pub overlap : r .overlap ≡ metres (lineOf s .overlap k)
 
 module _ (s : List ℕ) (k : ℕ) where
   abbrev first : ℕ

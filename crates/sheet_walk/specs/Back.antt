@@ -34,6 +34,11 @@ pub record LeastOf (l : Line) (a b : ℕ) (g : Gradient) : Type 0 where
   pub some : (k : ℕ) × ((a ≤ k) × ((k ≤ b) × (slope l k ≡ g)))
   pub none : (k : ℕ) → a ≤ k → k ≤ b → g .rise + slope l k .fall ≤ slope l k .rise + g .fall
 
+-- "end", zeros beside it
+pub record Over (r : Back) : Type 0 where
+  pub told : r .end ≡ 1
+  pub zeros : Zeros (r .stretch ∷ gradientOf (r .gradient) .rise ∷ gradientOf (r .gradient) .fall ∷ gradientOf (r .least) .rise ∷ gradientOf (r .least) .fall ∷ [])
+
 module _ (s : List ℕ) where
   -- the stretch that is n before another, its gradient from the sheet's list, and the least of the two and those between
   pub record OneBack (last n : ℕ) (r : Back) : Type 0 where
@@ -41,11 +46,6 @@ module _ (s : List ℕ) where
     pub number : r .stretch + n ≡ last
     pub field : r .gradient ≡ getD (fieldsOf s .gradients) (r .stretch) (pos 0)
     pub lowest : LeastOf (lineOf s) (r .stretch) last (gradientOf (r .least))
-
-  -- "end", zeros beside it
-  pub record Over (r : Back) : Type 0 where
-    pub told : r .end ≡ 1
-    pub zeros : Zeros (r .stretch ∷ gradientOf (r .gradient) .rise ∷ gradientOf (r .gradient) .fall ∷ gradientOf (r .least) .rise ∷ gradientOf (r .least) .fall ∷ [])
 
   -- What a step promises: it is on the way from the stretch that holds the signal's point to the one that holds the tail's, or over;
   -- the last one's least is the least gradient over all points from the tail to the signal, both included.

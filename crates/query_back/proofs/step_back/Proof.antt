@@ -7,15 +7,15 @@ use Prim.Native.Nat.{ℕ, _≤_, _<_}
 use Rattle.train.specs.declared.Metre.{Metre}
 use Rattle.sheet.specs.Sheet.{lineOf}
 use Rattle.sheet.proofs.Kept.{headed-of}
+use Rattle.sheet_lookup.specs.Counts.{IsSignal}
 use Rattle.sheet_walk.specs.Back.{backOn, Steps}
 use Rattle.query_way.specs.Way.{tailOf}
-use Rattle.query_way.specs.Find.{IsAhead}
 use Rattle.query_back.proofs.Answers.{too-long, by-the-sheet, back-refused, back-given}
 use Rattle.query_back.proofs.step_back.Statement.{statement}
 use Rattle.query_back.proofs.step_back.Tie as tie
 
--- without a refusal it is a signal ahead, on the line
-held : (c : tie.Else2) → let r = c .before .before in let a = r .before .before .before .before .args in IsAhead (now (a .s)) (a .signal) (a .head .0) (r .signal-ahead .result)
+-- without a refusal it is the sheet's signal
+held : (c : tie.Else2) → let r = c .before .before in let a = r .before .before .before .before .args in IsSignal (now (a .s)) (a .signal) (r .signal-ahead .result)
 held c = c .before .before .signal-ahead .ensures .read (omega (arith, c .if2 .left))
 
 refused-with-requires : tie.Need-refused-with-requires
@@ -53,7 +53,8 @@ step-back-requires c κs =
     let i = held e in
     let p = place e in
     let on = headed-of _ (i .sheet) .1 .signals .each _ (i .number) .0 in
-    (i .sheet, omega (arith, c .tail .ensures, i .reached, p), omega (arith, on, p))
+    let reached = e .before .before .signal-ahead .ensures .reached (omega (arith, e .if2 .left)) in
+    (i .sheet, omega (arith, c .tail .ensures, reached, p), omega (arith, on, p))
 
 returns-3 : tie.Need-returns-3
 returns-3 c =

@@ -6,13 +6,13 @@ use Prim.Native.Nat.{_+_, _≤_, _<_}
 use native.Mathlib.Omega.{arith}
 use Rattle.train.specs.declared.Metre.{Metre}
 use Rattle.sheet.specs.Sheet.{lineOf}
-use Rattle.query_way.specs.Find.{refusal, IsAhead}
+use Rattle.sheet_lookup.specs.Counts.{IsSignal}
 use Rattle.query_way.proofs.Ways.{on-line, way-of, leads-of}
 use Rattle.query_way.proofs.find.Statement.{statement}
 use Rattle.query_way.proofs.find.Tie as tie
 
--- without a refusal it is a signal ahead
-held : (c : tie.Else1) → let r = c .before .before .before in let a = r .before .before .args in IsAhead (now (a .s)) (a .signal) (a .head .0) (r .signal-ahead .result)
+-- without a refusal it is the sheet's signal
+held : (c : tie.Else1) → let r = c .before .before .before in let a = r .before .before .args in IsSignal (now (a .s)) (a .signal) (r .signal-ahead .result)
 held c = c .before .before .before .signal-ahead .ensures .read (omega (arith, c .if1 .left))
 
 -- it stands on the line, not before the head
@@ -22,7 +22,7 @@ stands c =
     let i = held c in
     let a = c .before .before .before .before .before .args in
     let o = on-line (now (a .s)) (a .signal) (a .head .0) (i .sheet) (i .number) in
-    rw (i .place, i .overlap) (i .reached, o)
+    rw (i .place, i .overlap) (c .before .before .before .signal-ahead .ensures .reached (omega (arith, c .if1 .left)), o)
 
 signal-ahead-requires : tie.Need-signal-ahead-requires
 signal-ahead-requires c κs = search needs

@@ -8,7 +8,8 @@ use Rattle.train.specs.declared.Metre.{Metre}
 use Rattle.train.proofs.Judging.{told}
 use Rattle.sheet.specs.Sheet.{lineOf}
 use Rattle.sheet_lookup.specs.declared.Signal.{Signal}
-use Rattle.sheet_lookup.proofs.Read.{IsSignal, read-signal}
+use Rattle.sheet_lookup.specs.Counts.{IsSignal}
+use Rattle.sheet_lookup.proofs.Read.{read-signal}
 use Rattle.query_way.proofs.Ways.{unread, beyond, reached, way-judges}
 use Rattle.query_way.proofs.signal_ahead.Statement.{statement}
 use Rattle.query_way.proofs.signal_ahead.Tie as tie
@@ -29,14 +30,14 @@ returns c =
     let r = c .before .before in
     let a = r .before .before .args in
     let e = unread (now (a .s)) (a .signal) (a .head .0) _ (sym (ap (λ (x : Signal). x .refusal) (r .read-signal .ensures .answer))) (c .if1 .taken) in
-    record { refused = e; spans = told (way-judges (now (a .s)) (a .signal) (a .head .0)) (sym e) .1; read = λ z. absurd (omega (arith, z, c .if1 .taken)) }
+    record { refused = e; spans = told (way-judges (now (a .s)) (a .signal) (a .head .0)) (sym e) .1; read = λ z. absurd (omega (arith, z, c .if1 .taken)); reached = λ z. absurd (omega (arith, z, c .if1 .taken)) }
 
 returns-2 : tie.Need-returns-2
 returns-2 c =
     let i = held (c .before .before .before) in
     let a = c .before .before .before .before .before .before .before .args in
     let e = beyond (now (a .s)) (a .signal) (a .head .0) (i .sheet) (i .number) (omega (arith, c .if2 .taken, ap (λ (r : Metre). r .0) (i .place))) in
-    record { refused = e; spans = told (way-judges (now (a .s)) (a .signal) (a .head .0)) (sym e) .1; read = λ z. absurd (omega (arith, z)) }
+    record { refused = e; spans = told (way-judges (now (a .s)) (a .signal) (a .head .0)) (sym e) .1; read = λ z. absurd (omega (arith, z)); reached = λ z. absurd (omega (arith, z)) }
 
 returns-3 : tie.Need-returns-3
 returns-3 c =
@@ -49,7 +50,8 @@ returns-3 c =
     record {
       refused = e;
       spans = told (way-judges (now (a .s)) (a .signal) (a .head .0)) (sym e) .1;
-      read = λ y. record { sheet = i .sheet; number = i .number; place = i .place; overlap = i .overlap; reached = h };
+      read = λ y. i;
+      reached = λ y. h;
     }
 
 pub signal-ahead-spec : {M : Type 1} → statement M
