@@ -23,6 +23,9 @@ walk: $(designers) ## prints a walk along a line from a signal back to a train's
 curves: $(designers) ## draws its braking curves: target/curves.svg
 	$(run) --example curves > target/curves.svg
 
+grades: $(designers) ## draws a line's gradients and marks those that govern an approach: target/grades.svg
+	$(run) --example grades > target/grades.svg
+
 bench: archives ## times the calls beside two peers in Rust
 	$(run) --bin bench
 
@@ -52,4 +55,4 @@ $(tests): $(call sources,wide_calls)
 	rt staticlib wide_calls
 
 .NOTPARALLEL:
-.PHONY: help example distances walk curves bench archives test gate ceilings tables clean
+.PHONY: help example distances walk curves grades bench archives test gate ceilings tables clean

@@ -11,8 +11,10 @@ _Static_assert(offsetof(struct approach_train, coefficients) == 16, "its coeffic
 _Static_assert(sizeof(bool) == 1 && offsetof(struct approach_train, electropneumatic) == 1, "its bytes");
 _Static_assert(sizeof(struct approach_distances) == 20, "distances");
 _Static_assert(sizeof(struct approach_move) == 20 && offsetof(struct approach_move, mark) == 16, "move");
-_Static_assert(sizeof(struct approach_back) == 20 && offsetof(struct approach_back, least) == 16, "back");
-_Static_assert(sizeof(struct approach_answer) == 28, "answer");
+_Static_assert(sizeof(struct approach_back) == 24 && offsetof(struct approach_back, least_stretch) == 20, "back");
+_Static_assert(sizeof(struct approach_answer) == 36 && offsetof(struct approach_answer, ahead_stretch) == 32, "answer");
+_Static_assert(offsetof(struct approach_answer, overlap_stretch) == 28, "its stretches behind what it had before");
+_Static_assert(APPROACH_NO_STRETCH == 65535 && APPROACH_NO_STRETCH >= APPROACH_MOST_STRETCHES, "no stretch's number");
 _Static_assert(APPROACH_ACCEPTED == 0 && APPROACH_MARK_CURVE == 1 && APPROACH_MARK_RELEASE == 2, "document 01's numbers");
 _Static_assert(APPROACH_LONGEST_SHEET == 20 + 6 * 512 + 6 * 64 && APPROACH_LONGEST_ROW == 331, "the longest sheet and row");
 
@@ -116,8 +118,9 @@ static void left_zero(void) {
         expect("row of zeros", written.refusal == APPROACH_REFUSED_COEFFICIENT && row[0] == 7 && row[1] == 7);
     }
     expect("ramp of zeros", approach_ramp(100, 0, 36, 200, 400, none).refusal == APPROACH_REFUSED_COEFFICIENT);
-    struct approach_answer answer = approach_query(old, 200, 400, example, sizeof example, 1, 0);
-    expect("query of zeros", answer.refusal == APPROACH_REFUSED_COEFFICIENT && answer.permitted == 0);
+    const struct approach_answer answer = approach_query(old, 200, 400, example, sizeof example, 1, 0);
+    const struct approach_answer refused = {.refusal = APPROACH_REFUSED_COEFFICIENT};
+    expect("query of zeros", memcmp(&answer, &refused, sizeof refused) == 0);
 }
 
 /* With nC -0.010 above VC 0 nothing is left of the brake at 100 km/h, and on the level dp is 0.05 m/s2 or more up to 88: there it is
@@ -255,11 +258,14 @@ static void expect_answer(const char *name, uint32_t top_speed, uint32_t signal,
     expect(name, memcmp(&answer, &wanted, sizeof answer) == 0);
 }
 
-/* The program's top speed is 100. As 90 is permitted by the curve all speeds below fit, and the top speed ends a climb to 60. */
+/* The program's top speed is 100. As 90 is permitted by the curve all speeds below fit, and the top speed ends a climb to 60. The line
+ * has one stretch, and its second signal no overlap. */
 static void query(void) {
-    struct approach_answer release = {APPROACH_ACCEPTED, 37, 37, APPROACH_MARK_RELEASE, 4920, 5040, 5340};
-    struct approach_answer curve = {APPROACH_ACCEPTED, 0, 90, APPROACH_MARK_CURVE, 11280, 11400, 11700};
-    struct approach_answer top = {APPROACH_ACCEPTED, 0, 60, APPROACH_MARK_CURVE, 60 * 120 + 480, 60 * 120 + 600, 60 * 120 + 900};
+    const uint32_t none = APPROACH_NO_STRETCH;
+    struct approach_answer release = {APPROACH_ACCEPTED, 37, 37, APPROACH_MARK_RELEASE, 4920, 5040, 5340, 0, 0};
+    struct approach_answer curve = {APPROACH_ACCEPTED, 0, 90, APPROACH_MARK_CURVE, 11280, 11400, 11700, none, 0};
+    struct approach_answer top = {
+        APPROACH_ACCEPTED, 0, 60, APPROACH_MARK_CURVE, 60 * 120 + 480, 60 * 120 + 600, 60 * 120 + 900, none, 0};
     expect_answer("query, held by the release speed", 100, 0, release);
     expect_answer("query, held by the curve", 100, 1, curve);
     expect_answer("query, held by the top speed", 60, 1, top);
@@ -272,8 +278,9 @@ static void tail(void) {
     const uint32_t starts[] = {0, 800}, places[] = {1000};
     const int16_t gradients[] = {-20, 0};
     const uint16_t overlaps[] = {120};
-    const struct approach_answer off = {APPROACH_ACCEPTED, 37, 37, APPROACH_MARK_RELEASE, 4920, 5040, 5340};
-    const struct approach_answer on = {APPROACH_ACCEPTED, 30, 30, APPROACH_MARK_RELEASE, 30 * 120 + 480, 30 * 120 + 600, 30 * 120 + 900};
+    const struct approach_answer off = {APPROACH_ACCEPTED, 37, 37, APPROACH_MARK_RELEASE, 4920, 5040, 5340, 1, 1};
+    const struct approach_answer on = {
+        APPROACH_ACCEPTED, 30, 30, APPROACH_MARK_RELEASE, 30 * 120 + 480, 30 * 120 + 600, 30 * 120 + 900, 0, 0};
     uint8_t sheet[APPROACH_SHEET_LENGTH(2, 1)];
     approach_sheet_write(starts, 2, gradients, 2, places, 1, overlaps, 1, 2000, sheet, sizeof sheet);
     struct approach_train t = train;
@@ -302,11 +309,11 @@ static void walk(void) {
     const struct approach_back end = {.end = 1};
     uint8_t sheet[APPROACH_SHEET_LENGTH(3, 1)];
     const size_t length = hollow(sheet, sizeof sheet).length;
-    expect_back("step 0", approach_sheet_back(sheet, length, 0, 600, 200, 0), (struct approach_back){0, 0, 2, 3, 3});
-    expect_back("step 1", approach_sheet_back(sheet, length, 0, 600, 200, 1), (struct approach_back){0, 0, 1, -8, -8});
+    expect_back("step 0", approach_sheet_back(sheet, length, 0, 600, 200, 0), (struct approach_back){0, 0, 2, 3, 3, 2});
+    expect_back("step 1", approach_sheet_back(sheet, length, 0, 600, 200, 1), (struct approach_back){0, 0, 1, -8, -8, 1});
     expect_back("past the tail", approach_sheet_back(sheet, length, 0, 600, 200, 2), end);
     expect_back("far past it", approach_sheet_back(sheet, length, 0, 600, 200, UINT32_MAX), end);
-    expect_back("step 2", approach_sheet_back(sheet, length, 0, 599, 200, 2), (struct approach_back){0, 0, 0, 5, -8});
+    expect_back("step 2", approach_sheet_back(sheet, length, 0, 599, 200, 2), (struct approach_back){0, 0, 0, 5, -8, 1});
     expect_back("past the line", approach_sheet_back(sheet, length, 0, 599, 1000, 3), end);
 }
 
@@ -321,6 +328,74 @@ static void walk_refusals(void) {
     expect_back("step, no such signal", approach_sheet_back(sheet, length, 1, 1001, 1000, 0), no_signal);
     expect_back("step, the head beyond", approach_sheet_back(sheet, length, 0, 1001, 1000, 0), beyond);
     expect_back("and past the end", approach_sheet_back(sheet, length, 0, 1001, 1000, UINT32_MAX), beyond);
+}
+
+/* Starts at 0, 300, 600 and 900 m, the first stretch uphill by 3 per mille and the others as told; a signal at 650 m. */
+static struct approach_written waves(const int16_t others[3], uint16_t overlap, uint8_t *sheet, size_t room) {
+    const uint32_t starts[] = {0, 300, 600, 900}, places[] = {650};
+    const int16_t gradients[] = {3, others[0], others[1], others[2]};
+    return approach_sheet_write(starts, 4, gradients, 4, places, 1, &overlap, 1, 6000, sheet, room);
+}
+
+/* The last step of a walk on a line of four stretches. */
+static struct approach_back last_step(const uint8_t *sheet, size_t length, uint32_t head, uint32_t train_length) {
+    struct approach_back last = approach_sheet_back(sheet, length, 0, head, train_length, 0);
+    for (uint32_t k = 1; k < 4; k++) {
+        struct approach_back step = approach_sheet_back(sheet, length, 0, head, train_length, k);
+        last = step.end ? last : step;
+    }
+    return last;
+}
+
+/* The two numbers of a query on such a line; the last step has the second. */
+static void expect_governing(
+    const char *name, const int16_t others[3], uint16_t overlap, uint32_t train_length, uint32_t head, uint32_t past, uint32_t ahead) {
+    uint8_t sheet[APPROACH_SHEET_LENGTH(4, 1)];
+    const size_t length = waves(others, overlap, sheet, sizeof sheet).length;
+    struct approach_train t = train;
+    t.length = train_length;
+    const struct approach_answer answer = approach_query(t, 200, 400, sheet, length, 0, head);
+    const struct approach_back last = last_step(sheet, length, head, train_length);
+    bool accepted = answer.refusal == APPROACH_ACCEPTED && last.refusal == APPROACH_ACCEPTED;
+    bool numbers = answer.overlap_stretch == past && answer.ahead_stretch == ahead;
+    expect(name, accepted && numbers && last.least_stretch == ahead);
+}
+
+/* Document 02, Card 4. The way ahead is from the tail to 650 m; past the signal counts what lies from 650 m less the train's length up
+ * to but not including the overlap's end, which with 250 m leaves the last stretch out and with 251 m does not. Of stretches of one
+ * gradient the first along the sheet governs. */
+static void governing(void) {
+    const int16_t falls[] = {-5, -5, -5}, between[] = {-5, 3, -5}, rises[] = {3, 3, 3}, last[] = {3, 3, -5};
+    const uint32_t none = APPROACH_NO_STRETCH;
+    expect_governing("the first of two falls", falls, 0, 0, 0, none, 1);
+    expect_governing("the signal's own fall", falls, 0, 0, 650, none, 2);
+    expect_governing("the fall under the head", falls, 250, 0, 301, 2, 1);
+    expect_governing("behind the overlap's end", last, 250, 0, 0, 2, 0);
+    expect_governing("before the overlap's end", last, 251, 0, 0, 3, 0);
+    expect_governing("tail and head in one stretch", rises, 250, 1, 301, 2, 1);
+    expect_governing("tail and head in two", rises, 251, 1, 299, 2, 0);
+    expect_governing("51 m of train", rises, 250, 51, 301, 1, 0);
+    expect_governing("a train longer than the line behind it", rises, 251, 1000, 650, 0, 0);
+    expect_governing("and a fall past the signal", last, 251, 1000, 650, 3, 0);
+    expect_governing("the first of two falls apart", between, 251, 1000, 0, 1, 1);
+}
+
+/* Document 02, Card 4: a fall in one piece and in two. The second line's pieces are 1 and 2, and with its tail at 500 m a train has left
+ * the first; all else of the answers is the same. */
+static void agreement(void) {
+    const uint32_t whole[] = {0, 300, 900}, cut[] = {0, 300, 450, 900}, places[] = {650};
+    const int16_t whole_gradients[] = {3, -5, 3}, cut_gradients[] = {3, -5, -5, 3};
+    const uint16_t overlaps[] = {120};
+    uint8_t one[APPROACH_SHEET_LENGTH(3, 1)], two[APPROACH_SHEET_LENGTH(4, 1)];
+    approach_sheet_write(whole, 3, whole_gradients, 3, places, 1, overlaps, 1, 2000, one, sizeof one);
+    approach_sheet_write(cut, 4, cut_gradients, 4, places, 1, overlaps, 1, 2000, two, sizeof two);
+    struct approach_train t = train;
+    t.length = 100;
+    const struct approach_answer a = approach_query(t, 200, 400, one, sizeof one, 0, 600);
+    const struct approach_answer b = approach_query(t, 200, 400, two, sizeof two, 0, 600);
+    expect("in one piece", a.refusal == APPROACH_ACCEPTED && a.overlap_stretch == 1 && a.ahead_stretch == 1);
+    expect("in two", b.refusal == APPROACH_ACCEPTED && b.overlap_stretch == 2 && b.ahead_stretch == 2);
+    expect("all else the same", memcmp(&a, &b, offsetof(struct approach_answer, overlap_stretch)) == 0);
 }
 
 /* The header's constant and the call's answer are document 01's number, or document 02's. */
@@ -371,6 +446,8 @@ int main(void) {
     tail();
     walk();
     walk_refusals();
+    governing();
+    agreement();
     refusals();
     printf("%d passed, %d failed\n", passed, failed);
     return failed > 0;

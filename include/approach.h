@@ -162,11 +162,12 @@ struct approach_move {
 
 /* A step of the walk from a signal back to a train's tail, stretch by stretch. */
 struct approach_back {
-    uint32_t refusal; /* 2, 7, 8, 9 */
-    uint32_t end;     /* 1 past the stretch that holds the tail, where all else is 0; else 0 */
-    uint32_t stretch; /* its number, from 0 along the sheet */
-    int32_t gradient; /* per mille, positive uphill */
-    int32_t least;    /* per mille: the least gradient of the steps from 0 to this one */
+    uint32_t refusal;       /* 2, 7, 8, 9 */
+    uint32_t end;           /* 1 past the stretch that holds the tail, where all else is 0; else 0 */
+    uint32_t stretch;       /* its number, from 0 along the sheet */
+    int32_t gradient;       /* per mille, positive uphill */
+    int32_t least;          /* per mille: the least gradient of the steps from 0 to this one */
+    uint32_t least_stretch; /* the lowest number among the stretches of these steps that have it */
 };
 
 /* What holds the permitted speed of an accepted answer. */
@@ -177,15 +178,22 @@ enum approach_answer_mark {
     APPROACH_MARK_RELEASE = 2, /* "release": the release speed, whose own P distance is longer than the way to the signal */
 };
 
-/* How fast a train may come up to a closed signal, and how fast it may creep past. */
+/* The `overlap_stretch` of an overlap of 0: no stretch has this number. */
+#define APPROACH_NO_STRETCH 65535
+
+/* How fast a train may come up to a closed signal, and how fast it may creep past, and which stretches govern: each has the lowest
+ * number among those that hold a point of its span and have the least gradient there; approach_query tells the two spans. Sheets
+ * that agree on the signal and on every point of both have the same answer but for these two numbers, which are each sheet's own. */
 struct approach_answer {
-    uint32_t refusal;   /* 1, 2, 3, 6, 12, 7, 8, 9, 10 */
-    uint32_t release;   /* release speed, km/h: braked at the signal from it or less, the train stays within the overlap */
-    uint32_t permitted; /* permitted speed where the head stands, km/h */
-    uint32_t mark;      /* an approach_answer_mark: "curve" also where no curve but the top speed ended the climb */
-    uint32_t w;         /* the three ceilings of the permitted speed, 120ths of a km/h */
+    uint32_t refusal;         /* 1, 2, 3, 6, 12, 7, 8, 9, 10 */
+    uint32_t release;         /* release speed, km/h: braked at the signal from it or less, the train stays within the overlap */
+    uint32_t permitted;       /* permitted speed where the head stands, km/h */
+    uint32_t mark;            /* an approach_answer_mark: "curve" also where no curve but the top speed ended the climb */
+    uint32_t w;               /* the three ceilings of the permitted speed, 120ths of a km/h */
     uint32_t sbi;
     uint32_t ebi;
+    uint32_t overlap_stretch; /* the governing stretch past the signal, from 0 along the sheet; or APPROACH_NO_STRETCH */
+    uint32_t ahead_stretch;   /* the governing stretch up to the signal */
 };
 
 /* Document 002's first values of the coefficients. */
@@ -231,8 +239,8 @@ struct approach_move approach_sheet_next(const uint8_t *sheet, size_t length, st
 
 /* The step of a number, from 0, on the walk from a signal back to the tail of a train; signal, head and tail as in approach_query,
  * the train's length in metres. Step 0 is the stretch that holds the signal's own point, step k the one k before it, and the last is
- * the stretch that holds the tail: its least is the gradient on which the query brakes to the release speed. A call checks the sheet,
- * finds the signal's stretch by halving and walks no more steps than its number. */
+ * the stretch that holds the tail: its least is the gradient on which the query brakes to the release speed, and its least_stretch the
+ * query's ahead_stretch. A call checks the sheet, finds the signal's stretch by halving and walks no more steps than its number. */
 struct approach_back approach_sheet_back(
     const uint8_t *sheet, size_t length, uint32_t signal, uint32_t head, uint32_t train_length, uint32_t step);
 

@@ -26,6 +26,7 @@ use Rattle.ramp.proofs.Judging.{times-settles}
 use Rattle.sheet.specs.Sheet.{lineOf}
 use Rattle.sheet.proofs.Kept.{sheet-settles}
 use Rattle.query_way.specs.declared.Way.{Way}
+use Rattle.query_way.specs.declared.Governing.{Governing}
 use Rattle.query_way.specs.declared.Found.{Found}
 use Rattle.query_way.specs.declared.Found.the-variants.{Refused, Ready}
 use Rattle.query_way.specs.Way.{wayRefusals, Leads}
@@ -37,7 +38,7 @@ use Rattle.query_permitted.specs.Permitted as permitted
 use Rattle.query_permitted.specs.Permitted.{permittedOf, markOf, Permits}
 use Rattle.query.specs.declared.Answer.{Answer}
 use Rattle.query.specs.Demand.{pastAt}
-use Rattle.query.specs.Answer.{refused, answered, release, brakeRefusals, accepted, inputs, wayTo, queryRefusals, answerOf, QueryAnswers}
+use Rattle.query.specs.Answer.{refused, answered, release, brakeRefusals, accepted, inputs, wayTo, governingTo, queryRefusals, answerOf, QueryAnswers}
 use Rattle.query.specs.Rules.{TooWeak, inputRules, brakeRules, queryRules}
 use Rattle.query.specs.Begin.{Fit, Starts, answerAt, answerOn}
 use Rattle.query.proofs.Third.{fit-ahead, creeps, kept}
@@ -56,19 +57,19 @@ of-either f true x y s e = ap f e
 of-either f false x y s e = ap f e
 
 -- the steps of the code: the paper's numbers for each case make the answer
-module _ (k : Coefficients) (t : Train) (g : Gradient) (d : Metre) (v0 : Kmh) where
+module _ (k : Coefficients) (t : Train) (g : Gradient) (d : Metre) (n : Governing) (v0 : Kmh) where
   abbrev permitting : ℕ × ℕ × ℕ → Answer
-  permitting s = cond (eqb (s .0) 0) (answered v0 (kmh (s .1)) (s .2)) (refused (s .0))
+  permitting s = cond (eqb (s .0) 0) (answered n v0 (kmh (s .1)) (s .2)) (refused (s .0))
 
-  pub as-permitted : (r : Permitted) → Permits k t g v0 d r → permitting (permitted.saysOf v0 r) ≡ answerAt k t g d v0
+  pub as-permitted : (r : Permitted) → Permits k t g v0 d r → permitting (permitted.saysOf v0 r) ≡ answerAt k t g d n v0
   unfolding answerAt
   as-permitted r e = of-either permitting (strong k t g v0 v0) (0, permittedOf k t g v0 d, markOf k t g v0 d) (10, 0, 0) _ e
 
-module _ (k : Coefficients) (t : Train) (tm tr : ℕ) (w : Way) where
+module _ (k : Coefficients) (t : Train) (tm tr : ℕ) (w : Way) (n : Governing) where
   abbrev releasing : ℕ × ℕ → Answer
-  releasing s = cond (eqb (s .0) 0) (answerAt k t (w .ahead) (w .distance) (kmh (s .1))) (refused (s .0))
+  releasing s = cond (eqb (s .0) 0) (answerAt k t (w .ahead) (w .distance) n (kmh (s .1))) (refused (s .0))
 
-  pub as-released : (r : Release) → Releases (k .inertia) (pastAt t tm tr w 1) (w .overlap) (t .top) r → releasing (saysOf r) ≡ answerOn k t tm tr w
+  pub as-released : (r : Release) → Releases (k .inertia) (pastAt t tm tr w 1) (w .overlap) (t .top) r → releasing (saysOf r) ≡ answerOn k t tm tr w n
   unfolding answerOn
   as-released r h = of-either releasing (weakPast (k .inertia) (pastAt t tm tr w 1) (w .overlap)) (10, 0) (0, release k t tm tr w .0) _ (h .says)
 
@@ -103,11 +104,12 @@ module _ (k : Coefficients) (t : Train) (tm tr : ℕ) (s : List ℕ) (signal hea
 
         pub started : (r : Found) → Finds s signal head (t .length .0) r → Starts k t tm tr s signal head r
         started (Refused n) i = (i .says, by-way ∙ i .refused)
-        started (Ready w) i =
+        started (Ready w n) i =
             let y = i .says in
             record {
               accepted = by-way ∙ i .refused;
               way = y .way;
+              governing = y .governing;
               leads = y .leads;
               fit = record { train = z; times = late; coefficients = own; within = coefficients-settle k .yes own; ahead = y .ahead; past = y .past };
             }
@@ -128,7 +130,7 @@ module _ (k : Coefficients) (t : Train) (tm tr : ℕ) (s : List ℕ) (signal hea
   refused-by n l e j =
       record {
         answer = rw (e, ne-eqb n 0 (λ i. omega arith));
-        lent = refused-demand n _ s (refl, (refl, (refl, (refl, (refl, (refl, tt))))));
+        lent = refused-demand n _ s (refl, (refl, (refl, (refl, (refl, (refl, (refl, (refl, tt))))))));
         spans = j;
         demand = λ z. absurd (let i : n ≡ 0 = z in omega arith);
         ceilings = λ z. absurd (let i : n ≡ 0 = z in omega arith);
@@ -139,9 +141,12 @@ module _ (k : Coefficients) (t : Train) (tm tr : ℕ) (s : List ℕ) (signal hea
       refused-by n l (first-before (inputs k t tm tr s signal head) (brakeRefusals k t tm tr (wayTo t s signal head)) (λ i. omega arith) ∙ e)
       (before-more (inputRules k t tm tr s signal head) (brakeRules k t tm tr s signal head) n l (told inputs-judge (sym e) .1))
 
-  module _ (z : firstOf (inputs k t tm tr s signal head) ≡ 0) (f : Fit k t tm tr (wayTo t s signal head)) (leads : Leads (lineOf s) signal head (t .length .0) (wayTo t s signal head)) where
+  module _ (z : firstOf (inputs k t tm tr s signal head) ≡ 0) (f : Fit k t tm tr (wayTo t s signal head)) (leads : Leads (lineOf s) signal head (t .length .0) (wayTo t s signal head) (governingTo t s signal head)) where
     abbrev w : Way
     w = wayTo t s signal head
+
+    abbrev n : Governing
+    n = governingTo t s signal head
 
     abbrev weak : Bool
     weak = weakPast (k .inertia) (pastAt t tm tr w 1) (w .overlap)
@@ -153,13 +158,13 @@ module _ (k : Coefficients) (t : Train) (tm tr : ℕ) (s : List ℕ) (signal hea
     decides = first-after 0 (inputs k t tm tr s signal head) (brakeRefusals k t tm tr w) inputs-rising z
 
     -- the inputs keep their rules, so the brake's decides
-    by-brake : (n : ℕ) → Judged (brakeRules k t tm tr s signal head) n → Judged (queryRules k t tm tr s signal head) n
-    by-brake n j = behind-kept (inputRules k t tm tr s signal head) (brakeRules k t tm tr s signal head) n (told inputs-judge (sym z) .1 .accepted refl) j
+    by-brake : (m : ℕ) → Judged (brakeRules k t tm tr s signal head) m → Judged (queryRules k t tm tr s signal head) m
+    by-brake m j = behind-kept (inputRules k t tm tr s signal head) (brakeRules k t tm tr s signal head) m (told inputs-judge (sym z) .1 .accepted refl) j
 
     weak-brake : TooWeak k t tm tr w → Judged (queryRules k t tm tr s signal head) 10
-    weak-brake h = by-brake 10 (record { accepted = λ i. absurd (let j : 10 ≡ 0 = i in omega arith); refused = λ l. inl (refl, (w, (leads, h))) })
+    weak-brake h = by-brake 10 (record { accepted = λ i. absurd (let j : 10 ≡ 0 = i in omega arith); refused = λ l. inl (refl, (n, (w, (leads, h)))) })
 
-    given : weak ≡ false → enough ≡ true → Answers (accepted k t tm tr w)
+    given : weak ≡ false → enough ≡ true → Answers (accepted k t tm tr w n)
     unfolding answerOf limitsOf
     given a b =
         let d = kept k t tm tr w f a b in
@@ -169,16 +174,16 @@ module _ (k : Coefficients) (t : Train) (tm tr : ℕ) (s : List ℕ) (signal hea
         record {
           answer = rw (decides, a, b) refl;
           lent = given-demand _ s;
-          spans = by-brake 0 (record { accepted = λ i. ((w, (leads, (release k t tm tr w .0, (d .creeps, d .enough)))), tt); refused = λ l. absurd (let j : 0 < 0 = l in omega arith) });
+          spans = by-brake 0 (record { accepted = λ i. ((n, (w, (leads, (release k t tm tr w .0, (d .creeps, d .enough))))), tt); refused = λ l. absurd (let j : 0 < 0 = l in omega arith) });
           demand = λ y. (w, (leads, d));
           ceilings = λ y. rw (le-ltb 330 P (omega arith)) (as-printed (kmh P));
         }
 
-    pub on-way : Answers (answerOn k t tm tr w)
+    pub on-way : Answers (answerOn k t tm tr w n)
     unfolding answerOn answerAt
     on-way = go weak enough refl refl
       where
-        go : (a b : Bool) → weak ≡ a → enough ≡ b → Answers (cond a (refused 10) (cond b (accepted k t tm tr w) (refused 10)))
+        go : (a b : Bool) → weak ≡ a → enough ≡ b → Answers (cond a (refused 10) (cond b (accepted k t tm tr w n) (refused 10)))
         go true b e g = refused-by 10 (lit< tt) (decides ∙ rw e refl) (weak-brake (weak-past k t tm tr w e))
         go false true e g = given e g
         go false false e g = refused-by 10 (lit< tt) (decides ∙ rw (e, g) refl) (weak-brake (weak-ahead k t tm tr w (creeps k t tm tr w f e) g))

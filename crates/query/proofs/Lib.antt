@@ -4,3 +4,4 @@ mod Brake
 pub mod Third
 mod Answers
 pub mod Agreement
+pub mod Example

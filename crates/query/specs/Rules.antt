@@ -9,12 +9,13 @@ use Rattle.train.specs.Judged.{Rule, trainRules, coefficientRule}
 use Rattle.ramp.specs.Answer.{timesRule}
 use Rattle.sheet.specs.Sheet.{lineOf}
 use Rattle.query_way.specs.declared.Way.{Way}
+use Rattle.query_way.specs.declared.Governing.{Governing}
 use Rattle.query_way.specs.Way.{wayRules, Leads}
 use Rattle.query.specs.Demand.{brakingPast, Weak, Creeps, Enough}
 
--- something is so of the train's way to the signal and past it
-abbrev pub On : Train → List ℕ → ℕ → ℕ → (Way → Type 0) → Type 0
-On t s signal head P = (w : Way) × (Leads (lineOf s) signal head (t .length .0) w × P w)
+-- something is so of the train's way to the signal and past it, which these stretches govern
+abbrev pub On : Train → List ℕ → ℕ → ℕ → Governing → (Way → Type 0) → Type 0
+On t s signal head n P = (w : Way) × (Leads (lineOf s) signal head (t .length .0) w n × P w)
 
 module _ (k : Coefficients) (t : Train) (tm tr : ℕ) where
   -- some release speed at which the brake has enough; the answer's own stands in the third demand
@@ -31,7 +32,7 @@ module _ (k : Coefficients) (t : Train) (tm tr : ℕ) where
     inputRules = trainRules t ++ (timesRule tm tr ∷ coefficientRule k ∷ wayRules s signal head)
 
     abbrev pub brakeRules : List Rule
-    brakeRules = record { number = 10; kept = On t s signal head Strong; broken = On t s signal head TooWeak } ∷ []
+    brakeRules = record { number = 10; kept = (n : Governing) × On t s signal head n Strong; broken = (n : Governing) × On t s signal head n TooWeak } ∷ []
 
     abbrev pub queryRules : List Rule
     queryRules = inputRules ++ brakeRules

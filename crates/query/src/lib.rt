@@ -1,5 +1,5 @@
 // The approach query: how fast a train may come up to a closed signal, and how fast it may creep past. Document 01, "Approach";
-// document 02, Cards 2 and 5.
+// document 02, Cards 2, 4 and 5.
 // Takes: `query_way`, `query_release`, `query_permitted`, `ramp` for refusal 6, `ceilings`. Gives: the operation `query`, and the
 // third demand.
 ghost use mathlib.Core.Path.{_≡_};
@@ -10,6 +10,7 @@ use ceilings::Ceiling;
 use query_permitted::Permitted;
 use query_release::Release;
 use query_way::Found;
+use query_way::Governing;
 use query_way::Way;
 use ramp_motion::Overrun;
 use train::Coefficients;
@@ -18,8 +19,9 @@ use train::Kmh;
 use train::Metre;
 use train::Train;
 
-// The release speed, the permitted speed, what holds it (mark 1: the curve, 2: the release speed), and the ceilings of the
-// permitted speed; or a refusal and zeros.
+// The release speed, the permitted speed, what holds it (mark 1: the curve, 2: the release speed), the ceilings of the permitted
+// speed, and the numbers of the stretches that govern the overlap (65,535 where it has no length) and the way ahead; or a refusal and
+// zeros.
 #[repr(C)]
 pub struct Answer {
     pub refusal: u32,
@@ -29,6 +31,8 @@ pub struct Answer {
     pub w: Ceiling,
     pub sbi: Ceiling,
     pub ebi: Ceiling,
+    pub overlap_stretch: u32,
+    pub ahead_stretch: u32,
 }
 
 // A refusal, with zeros.
@@ -43,12 +47,14 @@ fn refused_with(n: u32) -> Answer
         w: Ceiling(0),
         sbi: Ceiling(0),
         ebi: Ceiling(0),
+        overlap_stretch: 0,
+        ahead_stretch: 0,
     }
 }
 
 // An answer, with the ceilings of the permitted speed.
-fn given(release: Kmh, permitted: Kmh, mark: u32) -> Answer
-    ensures { λ r. ⌜ r ≡ answered release permitted mark ⌝ }
+fn given(governing: Governing, release: Kmh, permitted: Kmh, mark: u32) -> Answer
+    ensures { λ r. ⌜ r ≡ answered governing release permitted mark ⌝ }
 {
     let limits = ceilings::ceilings(permitted);
     let w = limits.w;
@@ -62,6 +68,8 @@ fn given(release: Kmh, permitted: Kmh, mark: u32) -> Answer
         w: w,
         sbi: sbi,
         ebi: ebi,
+        overlap_stretch: governing.overlap,
+        ahead_stretch: governing.ahead,
     }
 }
 
@@ -98,23 +106,31 @@ fn answer_at(
     train: Train,
     ahead: Gradient,
     distance: Metre,
+    governing: Governing,
     release: Kmh,
 ) -> Answer
     requires { ⌜ Within k × FitAhead train ahead release ⌝ }
-    ensures { λ r. ⌜ r ≡ answerAt k train ahead distance release ⌝ }
+    ensures { λ r. ⌜ r ≡ answerAt k train ahead distance governing release ⌝ }
 {
     let permitted = query_permitted::speed(k, train, ahead, release, distance);
     match permitted {
         Permitted::Weak => refused_with(10),
-        Permitted::Release => given(release, release, 2),
-        Permitted::Curve(v) => given(release, v, 1),
+        Permitted::Release => given(governing, release, release, 2),
+        Permitted::Curve(v) => given(governing, release, v, 1),
     }
 }
 
 // The answer on a way.
-fn answer_on(k: Coefficients, train: Train, tm: u32, tr: u32, w: Way) -> Answer
+fn answer_on(
+    k: Coefficients,
+    train: Train,
+    tm: u32,
+    tr: u32,
+    w: Way,
+    governing: Governing,
+) -> Answer
     requires { ⌜ Fit k train tm tr w ⌝ }
-    ensures { λ r. ⌜ r ≡ answerOn k train tm tr w ⌝ }
+    ensures { λ r. ⌜ r ≡ answerOn k train tm tr w governing ⌝ }
 {
     let inertia = k.inertia;
     let top = train.top;
@@ -132,7 +148,7 @@ fn answer_on(k: Coefficients, train: Train, tm: u32, tr: u32, w: Way) -> Answer
     let release = query_release::speed(inertia, o, overlap, top);
     match release {
         Release::Weak => refused_with(10),
-        Release::Speed(v) => answer_at(k, train, ahead, distance, v),
+        Release::Speed(v) => answer_at(k, train, ahead, distance, governing, v),
     }
 }
 
@@ -152,6 +168,6 @@ pub fn query(
     let found = start(k, train, tm, tr, s, signal, head);
     match found {
         Found::Refused(n) => refused_with(n),
-        Found::Ready(w) => answer_on(k, train, tm, tr, w),
+        Found::Ready(w, n) => answer_on(k, train, tm, tr, w, n),
     }
 }

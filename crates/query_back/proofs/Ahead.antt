@@ -1,4 +1,5 @@
--- Card 3, of two calls: the last step's least is the gradient ahead, on every way that leads to the signal, and so on the query's.
+-- Cards 3 and 4, of two calls: the last step's least is the gradient ahead, and its stretch the one that governs there, on every way that
+-- leads to the signal, and so on the query's.
 use mathlib.Core.Path.{_≡_, sym, ap, _∙_}
 use mathlib.Core.List.{List}
 use mathlib.Core.Logic.{⊎-elim}
@@ -9,11 +10,12 @@ use Rattle.train.specs.Gradient.{gradientOf}
 use Rattle.sheet_line.specs.Line.{Line}
 use Rattle.sheet.specs.Sheet.{lineOf}
 use Rattle.sheet.specs.Kept.{Kept}
-use Rattle.sheet_span.specs.Least.{stretchAt, leastOver}
+use Rattle.sheet_span.specs.Least.{stretchAt, leastOver, governingOver}
 use Rattle.sheet_span.proofs.Stretches.{at-point}
 use Rattle.sheet_walk.specs.declared.Back.{Back}
 use Rattle.sheet_walk.specs.Back.{Steps}
 use Rattle.query_way.specs.declared.Way.{Way}
+use Rattle.query_way.specs.declared.Governing.{Governing}
 use Rattle.query_way.specs.Way.{Behind, Leads}
 use Rattle.query_back.specs.Answer.{BackAnswers}
 
@@ -54,8 +56,8 @@ module _ (s : List ℕ) (signal head length : ℕ) where
   unrefused {n} {r} a e = ⊎-elim (λ i. absurd (let o = a .lent .zeros i .0 in omega arith)) (λ i. omega arith) (below 0 (r .refusal))
 
   -- one step is on the way, and the next is the end
-  pub last-least : (n : ℕ) (r e : Back) (after behind : List ℕ) (w : Way) → BackAnswers s signal head length n r after → BackAnswers s signal head length (suc n) e behind → r .refusal ≡ 0 → r .end ≡ 0 → e .end ≡ 1 → Leads line signal head length w → gradientOf (r .least) ≡ w .ahead
-  last-least n r e after behind w a b z on off leads =
+  pub last-least : (n : ℕ) (r e : Back) (after behind : List ℕ) (w : Way) (g : Governing) → BackAnswers s signal head length n r after → BackAnswers s signal head length (suc n) e behind → r .refusal ≡ 0 → r .end ≡ 0 → e .end ≡ 1 → Leads line signal head length w g → (gradientOf (r .least) ≡ w .ahead) × (r .«least_stretch» ≡ g .ahead)
+  last-least n r e after behind w g a b z on off leads =
       let y = unrefused b off in
       let same = one-tail head length (tail a z) (tail b y) (a .steps z .1 .0) (b .steps y .1 .0) in
       let begin : steps a z .first ≡ steps b y .first = sym (from-tail a z) ∙ ap (stretchAt line) same ∙ from-tail b y in
@@ -64,4 +66,8 @@ module _ (s : List ℕ) (signal head length : ℕ) where
       let j = gone b y off in
       let all = steps a z .whole (omega arith) in
       let (t, (p, o)) = leads .ahead in
-      all .value ∙ ap (λ (k : ℕ). leastOver line k (line .place signal + 1)) (one-tail head length (tail a z) t (a .steps z .1 .0) p) ∙ sym (o .value)
+      let from : tail a z ≡ t = one-tail head length (tail a z) t (a .steps z .1 .0) p in
+      let to = line .place signal + 1 in (
+        all .value ∙ ap (λ (k : ℕ). leastOver line k to) from ∙ sym (o .value),
+        all .number ∙ ap (λ (k : ℕ). governingOver line k to) from ∙ sym (o .number),
+      )

@@ -44,7 +44,7 @@ module _ (s : List ℕ) (signal head length : ℕ) where
     back-refused k e h =
         record {
           answer = rw (e, ne-eqb k 0 (λ z. omega arith)) refl;
-          lent = refused-demand k _ s (refl, (refl, (refl, (refl, (refl, (refl, tt))))));
+          lent = refused-demand k _ s (refl, (refl, (refl, (refl, (refl, (refl, (refl, tt)))))));
           spans = told back-judges (sym e) .1;
           steps = λ z. absurd (let i : k ≡ 0 = z in omega arith);
         }

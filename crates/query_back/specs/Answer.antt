@@ -1,4 +1,4 @@
--- Document 02, Card 3: what a step of the walk from a signal towards a train's tail answers, and what it promises.
+-- Document 02, Cards 3 and 4: what a step of the walk from a signal towards a train's tail answers, and what it promises.
 use mathlib.Core.Path.{_≡_}
 use mathlib.Core.Bool.{cond}
 use mathlib.Core.List.{List, [], _∷_, _++_}
@@ -16,7 +16,7 @@ use Rattle.query_way.specs.Way.{wayRefusals, wayRules, tailOf, Behind}
 
 -- a refusal, with zeros
 abbrev pub refused : ℕ → Back
-refused n = record { refusal = n; end = 0; stretch = 0; gradient = pos 0; least = pos 0 }
+refused n = record { refusal = n; end = 0; stretch = 0; gradient = pos 0; least = pos 0; «least_stretch» = 0 }
 
 module _ (s : List ℕ) (signal head length : ℕ) where
   -- 2, 7, 8, 9
@@ -36,6 +36,6 @@ module _ (s : List ℕ) (signal head length : ℕ) where
   -- what a step promises: its answer, the first demand, what is turned away, and that it is a step from the signal to where the tail is
   pub record BackAnswers (n : ℕ) (r : Back) (after : List ℕ) : Type 0 where
     pub answer : r ≡ backOf n
-    pub lent : FirstDemand (r .refusal) (r .end ∷ r .stretch ∷ gradientOf (r .gradient) .rise ∷ gradientOf (r .gradient) .fall ∷ gradientOf (r .least) .rise ∷ gradientOf (r .least) .fall ∷ []) s after 0
+    pub lent : FirstDemand (r .refusal) (r .end ∷ r .stretch ∷ gradientOf (r .gradient) .rise ∷ gradientOf (r .gradient) .fall ∷ gradientOf (r .least) .rise ∷ gradientOf (r .least) .fall ∷ r .«least_stretch» ∷ []) s after 0
     pub spans : Judged backRules (r .refusal)
     pub steps : r .refusal ≡ 0 → (tail : ℕ) × (Behind head length tail × Steps s tail (lineOf s .place signal) n r)

@@ -1,4 +1,4 @@
-// A step of the walk from a signal back towards a train's tail. Document 02, Card 3.
+// A step of the walk from a signal back towards a train's tail. Document 02, Cards 3 and 4.
 // Takes: `query_way`, `sheet_walk`. Gives: the operation `step_back`.
 ghost use mathlib.Core.Path.{_≡_};
 ghost use Rattle.query_back.specs.Answer.{refused, BackAnswers};
@@ -15,6 +15,7 @@ fn refused_with(n: u32) -> Back
         stretch: 0,
         gradient: 0,
         least: 0,
+        least_stretch: 0,
     }
 }
 

@@ -1,4 +1,5 @@
--- A line that rises and falls, by the definitions: the gradients of its ways, and that agreement from the head on does not settle them.
+-- A line that rises and falls, by the definitions: the gradients of its ways, the stretches that govern them, and that agreement from the
+-- head on does not settle them.
 use mathlib.Core.Path.{_≡_, refl, ap}
 use mathlib.Core.Bool.{Bool, true, false, cond}
 use mathlib.Core.List.{List, [], _∷_}
@@ -10,9 +11,9 @@ use Rattle.train.specs.declared.Gradient.{Gradient}
 use Rattle.train.specs.Units.{metres}
 use Rattle.sheet_line.specs.Bytes.{u16At, u32At, signed}
 use Rattle.sheet.specs.Sheet.{lineOf}
-use Rattle.sheet_span.specs.Least.{slope, stretchUpTo, slopeAt, leastOf}
+use Rattle.sheet_span.specs.Least.{slope, stretchUpTo, slopeAt, leastOf, governingOf}
 use Rattle.query_way.specs.declared.Way.{Way}
-use Rattle.query_way.specs.Way.{pastOf, wayOf}
+use Rattle.query_way.specs.Way.{pastOf, wayOf, governingPast, governingOn}
 
 -- stretches from 0 (10), 3 (in these two bytes), 6 (3) and 9 (-20, EC FF); a signal at 6 with an overlap of 3; line end 12
 abbrev pub line : ℕ → ℕ → List ℕ
@@ -30,6 +31,10 @@ hilly = line 251 255
 
 abbrev eased : List ℕ
 eased = line 4 0
+
+-- with the same rise of 3 before the signal as behind it
+abbrev pub alike-there : List ℕ
+alike-there = line 3 0
 
 abbrev leads : ℕ → Gradient → Gradient → Way
 leads distance ahead past = record { distance = metres distance; ahead = ahead; overlap = metres 3; past = past }
@@ -50,6 +55,16 @@ Goes head length w = wayOf (lineOf hilly) 0 head length ≡ w
 pub ways : Goes 0 0 (leads 6 (down 5) (up 3)) × (Goes 5 0 (leads 1 (down 5) (up 3)) × (Goes 6 0 (leads 0 (up 3) (up 3)) × (Goes 6 1 (leads 0 (down 5) (down 5)) × (Goes 6 3 (leads 0 (down 5) (down 5)) × (Goes 2 6 (leads 4 (down 5) (down 5)) × Goes 6 1000 (leads 0 (down 5) (down 5)))))))
 unfolding wayOf pastOf leastOf stretchUpTo u32At u16At signed
 ways = (refl, (refl, (refl, (refl, (refl, (refl, refl))))))
+
+-- Card 4: head, L, and the stretches that govern the overlap and the way ahead
+abbrev Governed : List ℕ → ℕ → ℕ → ℕ → ℕ → Type 0
+Governed s head length overlap ahead = governingOn (lineOf s) 0 head length ≡ record { overlap = overlap; ahead = ahead }
+
+-- On the first line the fall from 3 governs where a point of it is in the span. On the line with two equal rises the first of them does,
+-- unless the span has points of the second alone. An overlap of no length has none.
+pub governed : Governed hilly 0 0 2 1 × (Governed hilly 6 0 2 2 × (Governed hilly 6 1 1 1 × (Governed alike-there 0 0 2 1 × (Governed alike-there 6 0 2 2 × (Governed alike-there 6 1 1 1 × (governingPast (lineOf hilly) 6 0 5 ≡ 65535))))))
+unfolding governingOn governingPast governingOf stretchUpTo u32At u16At signed
+governed = (refl, (refl, (refl, (refl, (refl, (refl, refl))))))
 
 -- from 6 on the two lines are the same
 alike : (b : Bool) → slope (lineOf hilly) (cond b 3 2) ≡ slope (lineOf eased) (cond b 3 2)

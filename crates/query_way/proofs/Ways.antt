@@ -8,7 +8,6 @@ use borrow.Author.Tests.{lt-leb, lt-ltb, le-ltb, ne-eqb}
 use mathlib.Core.Logic.{inl, inr, ⊎-elim}
 use lib.Dec.{ltb, lit≤}
 use Rattle.lists.proofs.Split.{below, earlier}
-use Rattle.train.specs.declared.Gradient.{Gradient}
 use Rattle.train.specs.declared.Metre.{Metre}
 use Rattle.train.specs.Refusal.{_gives_}
 use Rattle.train.specs.Units.{metres}
@@ -21,14 +20,15 @@ use Rattle.sheet.proofs.Kept.{headed-of, sheet-settles}
 use Rattle.sheet.specs.Kept.{Kept}
 use Rattle.sheet_lookup.specs.Answer.{readRefusals, signalOf}
 use Rattle.sheet_lookup.proofs.Read.{read-refusal}
-use Rattle.sheet_span.specs.Least.{slopeAt, leastOver, LeastOver}
+use Rattle.sheet_span.specs.Least.{slopeAt, leastOver, governingOver, LeastOver}
 use Rattle.sheet_span.proofs.Points.{same-least}
-use Rattle.query_way.specs.Way.{wayRefusals, wayRules, tailOf, pastOf, wayOf, Behind, Leads, Agree}
-use Rattle.query_way.specs.Find.{refusal, Slope, Past}
+use Rattle.sheet_walk.specs.declared.Grade.{Grade}
+use Rattle.query_way.specs.Way.{wayRefusals, wayRules, tailOf, pastOf, wayOf, governingPast, governingOn, Behind, Leads, Agree}
+use Rattle.query_way.specs.Find.{refusal, GradeOver, Past}
 
--- the least is some stretch's
-pub slope-of : (l : Line) (from to : ℕ) (g : Gradient) → Kept l → LeastOver l from to g → Slope l from to g
-slope-of l from to g h o = let (k, (m, e)) = o .stretch in record { least = o; moderate = rw (← e) (h .stretches .each k (m .held .number) .1) }
+-- the least is its stretch's
+pub grade-over : (l : Line) (from to : ℕ) (g : Grade) → Kept l → LeastOver l from to (g .gradient) (g .stretch) → GradeOver l from to g
+grade-over l from to g h o = record { least = o; moderate = rw (← o .own) (h .stretches .each (g .stretch) (o .holds .held .number) .1) }
 
 module _ (s : List ℕ) (k head : ℕ) where
   -- no such signal: the read's refusal
@@ -50,7 +50,7 @@ module _ (s : List ℕ) (k head : ℕ) where
 pub tail-behind : (place length : ℕ) → Behind place length (tailOf place length)
 tail-behind place length = ⊎-elim (λ h. inr (h, omega arith)) (λ h. inl (omega arith)) (below place length)
 
--- the gradient of an overlap
+-- the governing grade of an overlap
 module _ (l : Line) (place overlap length : ℕ) where
   past-none : overlap ≡ 0 → pastOf l place overlap length ≡ record { rise = 0; fall = 0 }
   unfolding pastOf
@@ -60,12 +60,33 @@ module _ (l : Line) (place overlap length : ℕ) where
   unfolding pastOf
   past-is h = rw (ne-eqb overlap 0 (λ e. omega arith)) refl
 
-  pub no-overlap : overlap ≡ 0 → Past l place overlap length (record { rise = 0; fall = 0 })
-  no-overlap e = record { value = sym (past-none e); moderate = record { rise = lit≤ tt; fall = lit≤ tt }; least = λ h. absurd (let i : ⊥ = omega arith in i) }
+  number-none : overlap ≡ 0 → governingPast l place overlap length ≡ 65535
+  unfolding governingPast
+  number-none e = rw e refl
 
-  pub some-overlap : (g : Gradient) → Kept l → 0 < overlap → LeastOver l (tailOf place length) (place + overlap) g → Past l place overlap length g
+  number-is : 0 < overlap → governingPast l place overlap length ≡ governingOver l (tailOf place length) (place + overlap)
+  unfolding governingPast
+  number-is h = rw (ne-eqb overlap 0 (λ e. omega arith)) refl
+
+  pub no-overlap : overlap ≡ 0 → Past l place overlap length (record { gradient = record { rise = 0; fall = 0 }; stretch = 65535 })
+  no-overlap e =
+      record {
+        value = sym (past-none e);
+        number = sym (number-none e);
+        moderate = record { rise = lit≤ tt; fall = lit≤ tt };
+        least = λ h. absurd (let i : ⊥ = omega arith in i);
+        none = λ z. refl;
+      }
+
+  pub some-overlap : (g : Grade) → Kept l → 0 < overlap → LeastOver l (tailOf place length) (place + overlap) (g .gradient) (g .stretch) → Past l place overlap length g
   some-overlap g k h o =
-      record { value = o .value ∙ sym (past-is h); moderate = slope-of l (tailOf place length) (place + overlap) g k o .moderate; least = λ i. o }
+      record {
+        value = o .value ∙ sym (past-is h);
+        number = o .number ∙ sym (number-is h);
+        moderate = grade-over l (tailOf place length) (place + overlap) g k o .moderate;
+        least = λ i. o;
+        none = λ z. absurd (let i : ⊥ = omega arith in i);
+      }
 
 -- lines with the same gradient at each point of a span have the same least over it
 same-over : (l m : Line) (from to : ℕ) → from < to → ((p : ℕ) → from ≤ p → p < to → slopeAt l p ≡ slopeAt m p) → leastOver l from to ≡ leastOver m from to
@@ -95,29 +116,34 @@ module _ (l m : Line) (i j head length : ℕ) (a : Agree l m i j head length) (h
   unfolding wayOf
   same-way = rw (← a .place, ← a .overlap, same-ahead, same-past) refl
 
--- the way of what the code has read and found
-pub way-of : (l : Line) (k head length : ℕ) (place overlap : Metre) (ahead past : Gradient) → place ≡ metres (l .place k) → overlap ≡ metres (l .overlap k) → ahead ≡ leastOver l (tailOf head length) (place .0 + 1) → past ≡ pastOf l (place .0) (overlap .0) length → record { distance = metres (place .0 - head); ahead = ahead; overlap = overlap; past = past } ≡ wayOf l k head length
-unfolding wayOf
-way-of l k head length place overlap ahead past e f a b = rw (a, b, e, f) refl
+-- what the code has read and found: the way, what governs it, and that it leads to the signal
+module _ (l : Line) (k head length : ℕ) (place overlap : Metre) (ahead past : Grade) (e : place ≡ metres (l .place k)) (f : overlap ≡ metres (l .overlap k)) where
+  pub way-of : ahead .gradient ≡ leastOver l (tailOf head length) (place .0 + 1) → past .gradient ≡ pastOf l (place .0) (overlap .0) length → record { distance = metres (place .0 - head); ahead = ahead .gradient; overlap = overlap; past = past .gradient } ≡ wayOf l k head length
+  unfolding wayOf
+  way-of a b = rw (a, b, e, f) refl
 
--- and that way leads to the signal
-pub leads-of : (l : Line) (k head length : ℕ) (place overlap : Metre) (ahead past : Gradient) → place ≡ metres (l .place k) → overlap ≡ metres (l .overlap k) → head ≤ place .0 → Slope l (tailOf head length) (place .0 + 1) ahead → Past l (place .0) (overlap .0) length past → Leads l k head length (record { distance = metres (place .0 - head); ahead = ahead; overlap = overlap; past = past })
-leads-of l k head length place overlap ahead past e f h a b =
-    let p : place .0 ≡ l .place k = ap (λ (m : Metre). m .0) e in
-    let o : overlap .0 ≡ l .overlap k = ap (λ (m : Metre). m .0) f in
-    record {
-      signal = omega (arith, p);
-      overlap = o;
-      ahead = (tailOf head length, (tail-behind head length, subst (λ x. LeastOver l (tailOf head length) (x + 1) ahead) p (a .least)));
-      past =
-          λ i. (
-            tailOf (l .place k) length,
-            (
-              tail-behind (l .place k) length,
-              subst (λ x. LeastOver l (tailOf x length) (x + l .overlap k) past) p (subst (λ y. LeastOver l (tailOf (place .0) length) (place .0 + y) past) o (b .least i)),
-            ),
-          );
-    }
+  pub governing-of : ahead .stretch ≡ governingOver l (tailOf head length) (place .0 + 1) → past .stretch ≡ governingPast l (place .0) (overlap .0) length → record { overlap = past .stretch; ahead = ahead .stretch } ≡ governingOn l k head length
+  unfolding governingOn
+  governing-of a b = rw (a, b, e, f) refl
+
+  pub leads-of : head ≤ place .0 → GradeOver l (tailOf head length) (place .0 + 1) ahead → Past l (place .0) (overlap .0) length past → Leads l k head length (record { distance = metres (place .0 - head); ahead = ahead .gradient; overlap = overlap; past = past .gradient }) (record { overlap = past .stretch; ahead = ahead .stretch })
+  leads-of h a b =
+      let p : place .0 ≡ l .place k = ap (λ (m : Metre). m .0) e in
+      let o : overlap .0 ≡ l .overlap k = ap (λ (m : Metre). m .0) f in
+      record {
+        signal = omega (arith, p);
+        overlap = o;
+        ahead = (tailOf head length, (tail-behind head length, subst (λ x. LeastOver l (tailOf head length) (x + 1) (ahead .gradient) (ahead .stretch)) p (a .least)));
+        past =
+            λ i. (
+              tailOf (l .place k) length,
+              (
+                tail-behind (l .place k) length,
+                subst (λ x. LeastOver l (tailOf x length) (x + l .overlap k) (past .gradient) (past .stretch)) p (subst (λ y. LeastOver l (tailOf (place .0) length) (place .0 + y) (past .gradient) (past .stretch)) o (b .least i)),
+              ),
+            );
+        none = b .none;
+      }
 
 -- the conditions decide by the rules
 pub way-judges : (s : List ℕ) (k head : ℕ) → Judges (wayRules s k head) (wayRefusals s k head)

@@ -1,9 +1,8 @@
 -- The stretches that hold a point of a span are those from the one at its first point to the one at its last.
-use mathlib.Core.Path.{_≡_}
 use mathlib.Core.Logic.{⊎-elim}
-use Prim.Native.Nat.{ℕ, suc, _-_, _≤_, _<_}
+use Prim.Native.Nat.{ℕ, suc, _-_, _≤_}
 use native.Mathlib.Omega.{arith}
-use Rattle.lists.proofs.Split.{below, earlier}
+use Rattle.lists.proofs.Split.{earlier}
 use Rattle.sheet_line.specs.Line.{Line}
 use Rattle.sheet.specs.Kept.{Kept}
 use Rattle.sheet_span.specs.Least.{Holds, Meets}

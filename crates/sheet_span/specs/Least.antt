@@ -1,4 +1,5 @@
--- Document 01, "Line sheet" and "Approach": which stretch holds a point, and the least gradient over a span of points.
+-- Document 01, "Line sheet" and "Approach": which stretch holds a point, and the least gradient over a span of points; document 02, Card 4:
+-- which stretch has it.
 use mathlib.Core.Path.{_≡_}
 use mathlib.Core.Bool.{cond}
 use Prim.Native.Nat.{ℕ, zero, suc, _+_, _-_, _≤_, _<_}
@@ -50,6 +51,18 @@ module _ (l : Line) where
   abbrev pub leastOver : ℕ → ℕ → Gradient
   leastOver from to = leastOf from (to - from - 1)
 
+  -- Card 4: of two stretches the one that governs, the lesser in gradient, the first where they are equal
+  abbrev pub governor : ℕ → ℕ → ℕ
+  governor j k = cond (leb (slope j .rise + slope k .fall) (slope k .rise + slope j .fall)) j k
+
+  -- the number of the stretch that governs `from` and the n points behind it: along the line numbers rise, so the first is the lowest
+  unfoldable pub governingOf : ℕ → ℕ → ℕ
+  governingOf from zero = stretchAt from
+  governingOf from (suc n) = governor (governingOf from n) (stretchAt (from + suc n))
+
+  abbrev pub governingOver : ℕ → ℕ → ℕ
+  governingOver from to = governingOf from (to - from - 1)
+
   module _ (from to : ℕ) where
     -- a stretch that holds a point of the span
     pub record Meets (k : ℕ) : Type 0 where
@@ -58,11 +71,14 @@ module _ (l : Line) where
       pub last : point < to
       pub held : Holds k point
 
-    -- the promise: the definition's gradient, that of some stretch that holds a point, and no such stretch has less, by rise less fall;
-    -- and the same point by point
-    pub record LeastOver (g : Gradient) : Type 0 where
+    -- the promise: the definition's gradient, which no stretch that holds a point is below, by rise less fall; the definition's stretch
+    -- (Card 4), which holds a point and has that gradient, the lowest number of those that do; and the gradient point by point
+    pub record LeastOver (g : Gradient) (n : ℕ) : Type 0 where
       pub value : g ≡ leastOver from to
-      pub stretch : (k : ℕ) × (Meets k × (slope k ≡ g))
       pub stretches : (k : ℕ) → Meets k → g .rise + slope k .fall ≤ slope k .rise + g .fall
+      pub number : n ≡ governingOver from to
+      pub holds : Meets n
+      pub own : slope n ≡ g
+      pub lowest : (k : ℕ) → Meets k → slope k ≡ g → n ≤ k
       pub point : (p : ℕ) × ((from ≤ p) × ((p < to) × (slopeAt p ≡ g)))
       pub points : (p : ℕ) → from ≤ p → p < to → g .rise + slopeAt p .fall ≤ slopeAt p .rise + g .fall

@@ -1,13 +1,11 @@
 -- The walk from the signal to the tail: when a step is left, when it is over, and what each answers.
 use mathlib.Core.Path.{_≡_, refl, sym, ap, subst, _∙_}
-use mathlib.Core.Bool.{true, false}
 use mathlib.Core.List.{List}
 use mathlib.Core.Logic.{⊎-elim}
 use Prim.Native.Nat.{ℕ, suc, _+_, _-_, _≤_, _<_}
 use native.Mathlib.Numerals.{add-one}
 use native.Mathlib.Omega.{arith}
 use borrow.Author.Tests.{le-leb, lt-leb}
-use lib.IntN.{pos}
 use Rattle.lists.proofs.Split.{below}
 use Rattle.train.specs.declared.Gradient.{Gradient}
 use Rattle.train.specs.Gradient.{gradientOf}
@@ -22,7 +20,7 @@ use Rattle.sheet_span.proofs.Ends.{Ends, ends-ordered, meets-within, within-mee
 use Rattle.sheet_walk.specs.declared.Walk.{Walk}
 use Rattle.sheet_walk.specs.declared.Back.{Back}
 use Rattle.sheet_walk.specs.Walk.{begun, further, walkAt}
-use Rattle.sheet_walk.specs.Back.{shown, ended, backOn, LeastOf, OneBack, Over, Steps}
+use Rattle.sheet_walk.specs.Back.{shown, ended, backOn, LeastOf, Steps}
 use Rattle.sheet_walk.proofs.Walks.{walk-stretch, walk-gradient, walk-least}
 
 -- two points of a line that keeps its rules, the tail not beyond the signal
@@ -50,13 +48,14 @@ module _ {l : Line} {tail signal : ℕ} (a : Spans l tail signal) where
   ends = let o = a .order in let i = a .on in record { ordered = o; first = holds tail (omega arith); end = holds signal i }
 
   -- the least of all stretches of the walk is the least of the span
-  over-all : (g : Gradient) → LeastOf l first last g → LeastOver l tail (signal + 1) g
-  over-all g o =
-      let (k, (i, (j, e))) = o .some in
-      subst (λ (to : ℕ). LeastOver l tail to g) (sym (add-one signal))
-      (point-by-point l (a .kept) tail (suc signal) g (let i = a .order in omega arith) (a .on)
-      (k, (within-meets l (a .kept) tail signal first last ends k i j, e))
-      (λ k m. let (i, j) = meets-within l (a .kept) tail signal first last ends k m in o .none k i j))
+  over-all : (g : Gradient) (k : ℕ) → LeastOf l first last g k → LeastOver l tail (signal + 1) g k
+  over-all g k o =
+      subst (λ (to : ℕ). LeastOver l tail to g k) (sym (add-one signal))
+      (point-by-point l (a .kept) tail (suc signal) g k (let i = a .order in omega arith) (a .on)
+      (within-meets l (a .kept) tail signal first last ends k (o .from) (o .to))
+      (o .own)
+      (λ j m. let (i, k) = meets-within l (a .kept) tail signal first last ends j m in o .none j i k)
+      (λ j m s. let (i, k) = meets-within l (a .kept) tail signal first last ends j m in o .lowest j i k s))
 
   pub begins : Underway l tail last (begun l last) 0
   unfolding walkAt
@@ -85,14 +84,14 @@ module _ {l : Line} {tail signal : ℕ} (a : Spans l tail signal) where
     pub arrived : l .start (w .stretch) ≤ tail → first + n ≡ last
     arrived i = let e = stands in let j = u .within in let k = none-later l (a .kept) (w .stretch) first tail (ends .first) numbered i in omega arith
 
-    pub lowest : LeastOf l (w .stretch) last (gradientOf (w .least))
+    pub lowest : LeastOf l (w .stretch) last (gradientOf (w .least)) (w .«least_stretch»)
     lowest = let i = u .within in rw (u .state) (walk-least l last n (omega arith))
 
-    pub all-steps : first + n ≡ last → LeastOver l tail (signal + 1) (gradientOf (w .least))
+    pub all-steps : first + n ≡ last → LeastOver l tail (signal + 1) (gradientOf (w .least)) (w .«least_stretch»)
     all-steps i =
         let e = stands in
         let k : w .stretch ≡ first = omega arith in
-        over-all (gradientOf (w .least)) (subst (λ (k : ℕ). LeastOf l k last (gradientOf (w .least))) k lowest)
+        over-all (gradientOf (w .least)) (w .«least_stretch») (subst (λ (k : ℕ). LeastOf l k last (gradientOf (w .least)) (w .«least_stretch»)) k lowest)
 
     -- as answers
     pub at-step : shown w ≡ backOn l tail signal n
@@ -140,7 +139,7 @@ module _ (s : List ℕ) {tail signal : ℕ} (a : Spans (lineOf s) tail signal) (
         behind = ends a .first;
         ahead = ends a .end;
         on = λ j. absurd (omega arith);
-        off = λ j. record { told = refl; zeros = (refl, (refl, (refl, (refl, (refl, tt))))) };
+        off = λ j. record { told = refl; zeros = (refl, (refl, (refl, (refl, (refl, (refl, tt)))))) };
         whole = λ j. absurd (omega arith);
       }
 

@@ -1,28 +1,36 @@
-// The walk along a line from one of its points back to an earlier one, stretch by stretch, and the least gradient by it. Document 02,
-// Card 3.
+// The walk along a line from one of its points back to an earlier one, stretch by stretch, and the least gradient by it with the stretch
+// that has it. Document 02, Cards 3 and 4.
 // Takes: `sheet_fields`, `sheet_span`, `train_slope`. Gives: the walking mark `Walk`; a step by its number (`step_back`), to `query_back`;
-// the least gradient over a span (`least`), to `query_way`.
+// the least gradient over a span and its stretch (`least`), to `query_way`.
 ghost use mathlib.Core.Path.{_≡_};
 ghost use mathlib.Core.Bool.{true};
 ghost use Prim.Native.Nat.{_+_, _≤_, _<_};
 ghost use lib.Dec.{ltb};
 ghost use Rattle.sheet.specs.Sheet.{lineOf, accepted};
 ghost use Rattle.sheet_span.specs.Least.{stretchAt, LeastOver};
-ghost use Rattle.sheet_walk.specs.Walk.{less, begun, further};
+ghost use Rattle.sheet_walk.specs.Walk.{begun, further};
 ghost use Rattle.sheet_walk.specs.Back.{ended, backOn, Steps};
 use train::Gradient;
 use train::Metre;
 
 // Where the walk stands: at the stretch of that number; its gradient, and the least gradient of the stretches from where the walk
-// began to there. In per mille, signed, as read: a rise and a fall of every stretch make the walk dearer.
+// began to there, with the lowest number that has it. In per mille, signed, as read: a rise and a fall of every stretch make the walk
+// dearer.
 pub struct Walk {
     pub stretch: u32,
     pub gradient: i32,
     pub least: i32,
+    pub least_stretch: u32,
 }
 
-// A step's answer: the stretch's number and gradient, and the least gradient of the steps up to it; or `end` 1 and zeros; or a
-// refusal and zeros.
+// The governing grade of a span: its least gradient, and the number of the stretch that has it, the lowest among equals.
+pub struct Grade {
+    pub gradient: Gradient,
+    pub stretch: u32,
+}
+
+// A step's answer: the stretch's number and gradient, and the least gradient of the steps up to it with the lowest number that has it;
+// or `end` 1 and zeros; or a refusal and zeros.
 #[repr(C)]
 pub struct Back {
     pub refusal: u32,
@@ -30,16 +38,7 @@ pub struct Back {
     pub stretch: u32,
     pub gradient: i32,
     pub least: i32,
-}
-
-// The less of two.
-fn less_of(a: i32, b: i32) -> i32
-    ensures { λ r. ⌜ r ≡ less a b ⌝ }
-{
-    if a <= b {
-        return a;
-    }
-    b
+    pub least_stretch: u32,
 }
 
 impl Walk {
@@ -48,12 +47,13 @@ impl Walk {
         requires { ⌜ (accepted (now s) ≡ true) × (point .0 < lineOf (now s) .end) ⌝ }
         ensures { λ r. ⌜ r ≡ begun (lineOf (now (s .entry))) (stretchAt (lineOf (now (s .entry))) (point .0)) ⌝ }
     {
-        let number = sheet_span::stretch_at(s, point);
-        let gradient = sheet_fields::gradient(s, number as usize);
+        let here = sheet_span::stretch_at(s, point);
+        let own = sheet_fields::gradient(s, here as usize);
         Walk {
-            stretch: number,
-            gradient: gradient,
-            least: gradient,
+            stretch: here,
+            gradient: own,
+            least: own,
+            least_stretch: here,
         }
     }
 
@@ -65,11 +65,19 @@ impl Walk {
         let number = self.stretch - 1;
         let so_far = self.least;
         let gradient = sheet_fields::gradient(s, number as usize);
-        let least = less_of(gradient, so_far);
+        if gradient <= so_far {
+            return Walk {
+                stretch: number,
+                gradient: gradient,
+                least: gradient,
+                least_stretch: number,
+            };
+        }
         Walk {
             stretch: number,
             gradient: gradient,
-            least: least,
+            least: so_far,
+            least_stretch: self.least_stretch,
         }
     }
 
@@ -94,6 +102,7 @@ fn at_the_end() -> Back
         stretch: 0,
         gradient: 0,
         least: 0,
+        least_stretch: 0,
     }
 }
 
@@ -119,18 +128,22 @@ pub fn step_back(s: &[u8], first: Metre, last: Metre, step: u32) -> Back
         stretch: walk.stretch,
         gradient: walk.gradient,
         least: walk.least,
+        least_stretch: walk.least_stretch,
     }
 }
 
-// The least gradient of the stretches that hold a point from `first` to `last`, both included: by all steps of the walk.
-pub fn least(s: &[u8], first: Metre, last: Metre) -> Gradient
+// The least gradient of the stretches that hold a point from `first` to `last`, both included, and its stretch: by all steps of the walk.
+pub fn least(s: &[u8], first: Metre, last: Metre) -> Grade
     requires { ⌜ (accepted (now s) ≡ true) × (first .0 ≤ last .0) × (last .0 < lineOf (now s) .end) ⌝ }
-    ensures { λ r. ⌜ LeastOver (lineOf (now (s .entry))) (first .0) (last .0 + 1) r ⌝ }
+    ensures { λ r. ⌜ LeastOver (lineOf (now (s .entry))) (first .0) (last .0 + 1) (r .gradient) (r .stretch) ⌝ }
 {
     let tail = first.0;
     let mut walk = Walk::begin(s, last);
     while walk.ahead_of(s, Metre(tail)) {
         walk = walk.onward(s);
     }
-    train_slope::gradient_of(walk.least)
+    Grade {
+        gradient: train_slope::gradient_of(walk.least),
+        stretch: walk.least_stretch,
+    }
 }

@@ -8,6 +8,7 @@ mod owns;
 mod sheets;
 mod tails;
 mod text;
+mod ties;
 mod walks;
 
 use libc::STDOUT_FILENO;
@@ -28,7 +29,9 @@ fn print_line(table: u32, k: usize) {
         10 => owns::own_row_line(k),
         11 => owns::own_ramp_line(k),
         12 => owns::own_query_line(k),
-        _ => walks::back_line(k),
+        13 => walks::back_line(k),
+        14 => ties::tie_line(k),
+        _ => ties::tie_back_line(k),
     }
 }
 
@@ -73,22 +76,33 @@ fn main() {
         STDOUT_FILENO,
         b"# query freight EP BW L top TM TR i overlap signal head",
     );
-    io::write_all(
-        STDOUT_FILENO,
-        b" = refusal release permitted mark W SBI EBI\n",
-    );
-    print_table(7, 8640);
-    io::write_all(
-        STDOUT_FILENO,
-        b"# tail L i overlap head = refusal release permitted mark W SBI EBI\n",
-    );
-    print_table(8, 560);
+    print_queries(7, 8640);
+    io::write_all(STDOUT_FILENO, b"# tail L i overlap head");
+    print_queries(8, 560);
     print_own();
+    io::write_all(STDOUT_FILENO, b"# back place L i signal head step");
+    print_steps(13, 840);
+    io::write_all(STDOUT_FILENO, b"# tie L i j k overlap head");
+    print_queries(14, 600);
+    io::write_all(STDOUT_FILENO, b"# tie_back L i j k head step");
+    print_steps(15, 512);
+}
+
+// What the lines of every query, and of every step, have behind their inputs.
+fn print_queries(table: u32, lines: usize) {
     io::write_all(
         STDOUT_FILENO,
-        b"# back place L i signal head step = refusal end stretch i least\n",
+        b" = refusal release permitted mark W SBI EBI overlap_stretch ahead_stretch\n",
     );
-    print_table(13, 840);
+    print_table(table, lines);
+}
+
+fn print_steps(table: u32, lines: usize) {
+    io::write_all(
+        STDOUT_FILENO,
+        b" = refusal end stretch i least least_stretch\n",
+    );
+    print_table(table, lines);
 }
 
 // The same with a train's own coefficients.
@@ -112,9 +126,5 @@ fn print_own() {
         STDOUT_FILENO,
         b"# own_query dt h kr cr nc vc ki1 ki2 ki3 i1 i2 i overlap head",
     );
-    io::write_all(
-        STDOUT_FILENO,
-        b" = refusal release permitted mark W SBI EBI\n",
-    );
-    print_table(12, 400);
+    print_queries(12, 400);
 }

@@ -113,16 +113,22 @@ fn answer_fields(a: Answer) {
     text::field(w.0);
     text::field(sbi.0);
     text::field(ebi.0);
+    text::field(a.overlap_stretch);
+    text::field(a.ahead_stretch);
 }
 
-// The rest of the line of a query about one signal.
-pub fn query_rest(gradient: i16, overlap: u16, head: u32, answer: Answer) {
-    text::short_gradient(gradient);
+// The rest of the line of a query about one signal: of any, and with a stretch's gradient before it.
+pub fn signal_rest(overlap: u16, head: u32, answer: Answer) {
     text::short_field(overlap);
     text::field(head);
     text::equals();
     answer_fields(answer);
     text::end();
+}
+
+pub fn query_rest(gradient: i16, overlap: u16, head: u32, answer: Answer) {
+    text::short_gradient(gradient);
+    signal_rest(overlap, head, answer);
 }
 
 // The second stretch from 300 m, the second signal at 700 m, the line end at 6,000 m.

@@ -1,4 +1,4 @@
-// Lines of steps from a signal back towards a train's tail. Document 02, Card 3.
+// Lines of steps from a signal back towards a train's tail. Document 02, Cards 3 and 4.
 use super::sheets;
 use super::text;
 use libc::STDOUT_FILENO;
@@ -191,13 +191,14 @@ const HEADS: [u32; 42] = [
 
 const STEPS: [u32; 10] = [0, 1, 2, 3, 4, 5, 6, 7, 65536, 4294967295];
 
-fn back(s: &[u8], signal: u32, head: u32, length: u32, step: u32) {
+pub fn back(s: &[u8], signal: u32, head: u32, length: u32, step: u32) {
     let answer = query_back::step_back(s, signal, Metre(head), Metre(length), step);
     text::field(answer.refusal);
     text::field(answer.end);
     text::field(answer.stretch);
     text::gradient(answer.gradient);
     text::gradient(answer.least);
+    text::field(answer.least_stretch);
 }
 
 pub fn back_line(k: usize) {

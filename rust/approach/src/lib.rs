@@ -43,6 +43,9 @@
 //! assert_eq!((approach.permitted, approach.mark), (Kmh(90), Mark::Curve));
 //! assert_eq!(approach.release, Kmh(0));
 //!
+//! // The only stretch governs the way ahead, and there is no overlap to govern.
+//! assert_eq!((approach.ahead_stretch, approach.overlap_stretch), (0, None));
+//!
 //! // There is no third signal.
 //! let refusal = query(train, times, line, 2, Metre(0)).unwrap_err();
 //! assert_eq!(refusal.to_string(), "there is no signal or stretch of that number (refusal 8)");

@@ -40,7 +40,11 @@ impl fmt::Display for Mark {
     }
 }
 
-/// The speeds of an approach to a closed signal.
+/// The speeds of an approach to a closed signal, and the stretches that govern them.
+///
+/// A stretch governs that has the least gradient of its span, which [`query`] tells; of several the one of the lowest number, from 0
+/// along the sheet. The numbers are this sheet's own: sheets that agree on the signal and on every point of both spans have the same
+/// speeds, mark and ceilings, and may differ in these two.
 #[derive(Clone, Copy, Debug, PartialEq, Eq)]
 pub struct Approach {
     /// The release speed: braked at the signal from it or less, the train stays within the overlap.
@@ -51,6 +55,10 @@ pub struct Approach {
     pub mark: Mark,
     /// The three ceilings of the permitted speed.
     pub ceilings: Ceilings,
+    /// The number of the stretch that governs past the signal; none where the overlap is 0.
+    pub overlap_stretch: Option<u32>,
+    /// The number of the stretch that governs up to the signal.
+    pub ahead_stretch: u32,
 }
 
 /// The approach of a train whose head stands at a place to the signal of a number, from 0. It brakes to the release speed on
@@ -59,9 +67,10 @@ pub struct Approach {
 /// behind it.
 pub fn query(train: Train, times: Times, sheet: &[u8], signal: u32, head: Metre) -> Result<Approach, Refusal> {
     let answer = raw::query(train.into(), times.dead.0, times.rise.0, sheet, signal, head.0);
-    let raw::Answer { refusal, release, permitted, mark, w, sbi, ebi } = answer;
+    let raw::Answer { refusal, release, permitted, mark, w, sbi, ebi, overlap_stretch, ahead_stretch } = answer;
     accepted(refusal, ())?;
     let mark = Mark::numbered(mark).expect("an accepted answer has one of two marks");
     let ceilings = Ceilings { w: Ceiling(w), sbi: Ceiling(sbi), ebi: Ceiling(ebi) };
-    Ok(Approach { release: Kmh(release), permitted: Kmh(permitted), mark, ceilings })
+    let overlap_stretch = (overlap_stretch != raw::NO_STRETCH).then_some(overlap_stretch);
+    Ok(Approach { release: Kmh(release), permitted: Kmh(permitted), mark, ceilings, overlap_stretch, ahead_stretch })
 }

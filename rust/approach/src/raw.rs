@@ -107,9 +107,9 @@ pub struct Limits {
     pub ebi: u32,
 }
 
-/// Speeds in km/h, a mark, and the permitted speed's ceilings in 120ths of a km/h.
+/// Speeds in km/h, a mark, the permitted speed's ceilings in 120ths of a km/h, and which stretches govern.
 #[repr(C)]
-#[derive(Clone, Copy, Debug, PartialEq, Eq)]
+#[derive(Clone, Copy, Debug, Default, PartialEq, Eq)]
 pub struct Answer {
     /// 0, or a refusal's number.
     pub refusal: u32,
@@ -125,7 +125,14 @@ pub struct Answer {
     pub sbi: u32,
     /// Of the emergency brake intervention.
     pub ebi: u32,
+    /// Number of the stretch that governs past the signal, or [`NO_STRETCH`].
+    pub overlap_stretch: u32,
+    /// Number of the stretch that governs up to the signal.
+    pub ahead_stretch: u32,
 }
+
+/// The number that stands for none, where the overlap is 0.
+pub const NO_STRETCH: u32 = 65_535;
 
 /// An answer's mark "curve".
 pub const CURVE: u32 = 1;
@@ -186,7 +193,7 @@ pub struct Move {
 
 /// A step of the walk from a signal back to a train's tail.
 #[repr(C)]
-#[derive(Clone, Copy, Debug, PartialEq, Eq)]
+#[derive(Clone, Copy, Debug, Default, PartialEq, Eq)]
 pub struct Back {
     /// 0, or a refusal's number.
     pub refusal: u32,
@@ -198,6 +205,8 @@ pub struct Back {
     pub gradient: i32,
     /// Per mille, of the steps from 0 to this one.
     pub least: i32,
+    /// The lowest number among the stretches of these steps that have it.
+    pub least_stretch: u32,
 }
 
 /// Which of the four distances; C has a call for each.

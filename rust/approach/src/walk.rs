@@ -13,6 +13,11 @@ pub struct StepBack {
     pub gradient: PerMille,
     /// The least gradient of the steps from 0 to this one.
     pub least: PerMille,
+    /// The number of the stretch of these steps that has it, the lowest of several. It is this sheet's own, as [`stretch`] is: on
+    /// sheets that agree the same fall may have another.
+    ///
+    /// [`stretch`]: StepBack::stretch
+    pub least_stretch: u32,
 }
 
 /// The step of a number, from 0, on the walk from the signal of a number back to the tail of a train whose head stands at a
@@ -29,8 +34,8 @@ pub fn step_back(
     step: u32,
 ) -> Result<Option<StepBack>, Refusal> {
     let back = raw::sheet_back(sheet, signal, head.0, train_length.0, step);
-    let raw::Back { refusal, end, stretch, gradient, least } = back;
-    let step = StepBack { stretch, gradient: PerMille(gradient), least: PerMille(least) };
+    let raw::Back { refusal, end, stretch, gradient, least, least_stretch } = back;
+    let step = StepBack { stretch, gradient: PerMille(gradient), least: PerMille(least), least_stretch };
     accepted(refusal, (end == 0).then_some(step))
 }
 
@@ -59,7 +64,7 @@ impl Iterator for Walk<'_> {
 impl FusedIterator for Walk<'_> {}
 
 /// All steps of [`step_back`], in order. The last one's least is the gradient on which a [`query`](crate::query) brakes to the
-/// release speed.
+/// release speed, and its least stretch the one that governs the way ahead.
 ///
 /// ```
 /// use approach::{sheet, walk, Metre, PerMille, Refusal};
@@ -79,7 +84,7 @@ impl FusedIterator for Walk<'_> {}
 /// // A train of 200 m with its head at 700 m: its tail is on the fall.
 /// let steps: Vec<_> = walk(line, 0, Metre(700), Metre(200))?.collect();
 /// assert_eq!(steps.iter().map(|step| step.stretch).collect::<Vec<_>>(), [2, 1]);
-/// assert_eq!(steps.last().map(|step| step.least), Some(PerMille(-8)));
+/// assert_eq!(steps.last().map(|step| (step.least, step.least_stretch)), Some((PerMille(-8), 1)));
 ///
 /// // The head is beyond the signal.
 /// assert_eq!(walk(line, 0, Metre(1001), Metre(200)).unwrap_err(), Refusal::Head);

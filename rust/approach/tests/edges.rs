@@ -28,17 +28,9 @@ fn sheet(ahead: i32, past: i32, overlap: u32) -> Vec<u8> {
     Line { starts, gradients, places: vec![PLACE], overlaps: vec![overlap as u16], end: PLACE + overlap + 2 }.written()
 }
 
-fn on_reference(q: &Query) -> Result<reference::approach::Answer, u32> {
-    reference::approach::approach(on_paper(q.train), q.tm, q.tr, &q.sheet, q.signal, q.head)
-}
-
 /// The answer to an accepted query, in every field the reference's.
 fn answer(q: &Query) -> Approach {
-    let expected = on_reference(q).expect("an accepted query");
-    let reference::approach::Answer { release, permitted, mark, ceilings: [w, sbi, ebi] } = expected;
-    let answer = raw::query(q.train.into(), q.tm, q.tr, &q.sheet, q.signal, q.head);
-    assert_eq!(answer, raw::Answer { refusal: 0, release, permitted, mark: mark as u32, w, sbi, ebi }, "{q:?}");
-    q.answer().expect("an accepted query")
+    q.check().expect("an accepted query")
 }
 
 /// The same query for a train of another top speed, which has one of 1 at least.
@@ -54,7 +46,7 @@ fn at_the_signal(random: &mut Random, round: i32) -> Option<(Query, i32, u32)> {
     let (train, tm, tr) = (random.train(), random.below_any(&[200, 2001]), 1 + random.below_any(&[400, 3000]));
     let q = Query { train, tm, tr, sheet: sheet(gradient, gradient, overlap), signal: 0, head: PLACE };
     let q = up_to(&q, TOP);
-    let release = on_reference(&q).ok()?.release;
+    let Kmh(release) = q.check().ok()?.release;
     Some((q, gradient, release))
 }
 

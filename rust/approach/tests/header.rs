@@ -242,3 +242,8 @@ fn sizes() {
     assert_eq!(defined("APPROACH_MOST_SIGNALS"), sheet::MOST_SIGNALS);
     assert_eq!(defined("APPROACH_LONGEST_ROW"), LONGEST_ROW);
 }
+
+#[test]
+fn no_stretch() {
+    assert_eq!(defined("APPROACH_NO_STRETCH"), raw::NO_STRETCH as usize);
+}

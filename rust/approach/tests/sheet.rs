@@ -93,7 +93,7 @@ fn check(memory: &[u8], length: usize, random: &mut Random) -> bool {
     let (stretches, signals) = fields.as_ref().map_or((0, 0), |s| (s.stretches.len(), s.signals.len()));
     numbers(stretches).for_each(|number| check_stretch(bytes, number));
     numbers(signals).for_each(|number| check_signal(bytes, number));
-    check_moves(bytes, stretches, random.next() as u32);
+    check_moves(bytes, stretches, random.word() as u32);
     check_walks(bytes, fields.as_ref());
     assert_eq!(black_box(&around), &between(memory, UNTOUCHED), "a call has changed bytes");
     fields.is_some()
@@ -155,7 +155,7 @@ fn spoil_stretches(line: &mut Line, random: &mut Random) {
         2 => line.starts[at] = line.end + random.below(2) as u32,
         3 => line.starts[0] = 1,
         4 => line.starts.swap(at, last),
-        5 => line.starts[at] = random.next() as u32 >> random.below(32),
+        5 => line.starts[at] = random.word() as u32 >> random.below(32),
         _ => line.gradients[at] = [36, -36, i16::MAX, i16::MIN][random.below(4) as usize],
     }
 }
@@ -169,7 +169,7 @@ fn spoil_signals(line: &mut Line, random: &mut Random) {
         1 => (line.places[last], line.overlaps[last]) = (line.end, 0),
         2 => line.places[last] = u32::MAX - random.below(2) as u32,
         3 => line.places.swap(at, last),
-        4 => line.places[at] = random.next() as u32 >> random.below(32),
+        4 => line.places[at] = random.word() as u32 >> random.below(32),
         5 => line.overlaps.swap(at, last),
         6 => (line.places[last], line.overlaps[last]) = (line.end - 1, 2),
         _ => line.overlaps[at] = (line.end - line.places[at] + 1).min(u16::MAX as u32) as u16,

@@ -7,8 +7,8 @@ pub fn word(random: &mut Random) -> u64 {
     match random.below(8) {
         0 => 0,
         1 => u64::MAX,
-        2 | 3 => random.next() >> random.below(64),
-        _ => random.next(),
+        2 | 3 => random.word() >> random.below(64),
+        _ => random.word(),
     }
 }
 
@@ -33,13 +33,13 @@ pub fn summands(random: &mut Random) -> (Wide, Wide) {
 }
 
 fn full(random: &mut Random) -> Wide {
-    Wide { low: random.next(), mid: random.next(), high: random.next() }
+    Wide { low: random.word(), mid: random.word(), high: random.word() }
 }
 
 /// A number and a divisor of just `bits` bits, 1 to 160, the least quotient not below being any of 32 bits.
 pub fn dividend(random: &mut Random, bits: u32) -> (Wide, Wide) {
     let d = cut(full(random), bits);
-    let whole = times(d, random.next() >> 32);
+    let whole = times(d, random.word() >> 32);
     let rest = cut(full(random), bits - 1);
     (if at_most(rest, whole) { difference(whole, rest) } else { whole }, d)
 }

@@ -8,7 +8,7 @@ use reference::step::Curve;
 
 /// The first values in every other round, as in the benchmark.
 fn coefficients(random: &mut Random, round: usize) -> Coefficients {
-    if round % 2 == 0 {
+    if round.is_multiple_of(2) {
         Coefficients::FIRST_VALUES
     } else {
         random.any_coefficients()
@@ -116,14 +116,7 @@ fn sheets() {
 
 /// The answer of both peers, which is the reference's.
 fn both_back(w: &Walked, step: u32) -> Back {
-    let none = Back { refusal: 0, end: 0, stretch: 0, gradient: 0, least: 0 };
-    let expected = match reference::walk::back(&w.sheet, w.signal, w.head, w.length, step) {
-        Ok(Some(reference::walk::Step { stretch, gradient, least })) => {
-            Back { stretch, gradient: gradient.into(), least: least.into(), ..none }
-        }
-        Ok(None) => Back { end: 1, ..none },
-        Err(refusal) => Back { refusal, ..none },
-    };
+    let expected = w.expected(step);
     for back in [plain::walk::back, own::walk::back] {
         assert_eq!(back(&w.sheet, w.signal, w.head, w.length, step), expected, "step {step} of {w:?}");
     }
@@ -149,13 +142,10 @@ fn steps_back() {
 /// The answer of both peers, which is the reference's. Of train, coefficients and times they do not judge.
 fn both(q: &Query) -> Option<Answer> {
     let Query { train, tm, tr, sheet, signal, head } = q;
-    let expected = match reference::approach::approach(on_paper(*train), *tm, *tr, sheet, *signal, *head) {
-        Ok(reference::approach::Answer { release, permitted, mark, ceilings: [w, sbi, ebi] }) => {
-            Answer { refusal: 0, release, permitted, mark: mark as u32, w, sbi, ebi }
-        }
-        Err(1..=6 | 12) => return None,
-        Err(refusal) => Answer { refusal, release: 0, permitted: 0, mark: 0, w: 0, sbi: 0, ebi: 0 },
-    };
+    let expected = q.expected();
+    if matches!(expected.refusal, 1..=6 | 12) {
+        return None;
+    }
     for query in [plain::query::query, own::query::query] {
         assert_eq!(query((*train).into(), *tm, *tr, sheet, *signal, *head), expected, "{q:?}");
     }
@@ -177,6 +167,19 @@ fn queries() {
         seen[answer.refusal as usize] += 1;
     }
     assert!([0, 8, 9, 10].iter().all(|&refusal| seen[refusal] > 50), "{seen:?}");
+}
+
+/// Lines of few gradients, so that several stretches have the least.
+#[test]
+fn governing_stretches() {
+    let mut random = Random(98);
+    for _ in 0..2_000 {
+        both(&random.tied_query().1);
+        let w = random.tied_walk();
+        for step in [0, random.below_any(&[8, 512])] {
+            both_back(&w, step);
+        }
+    }
 }
 
 /// Climbs that mostly end for lack of brake.

@@ -116,7 +116,7 @@ fn quotients() {
         if digits(d).is_empty() {
             d.low = 1;
         }
-        let q = random.next() as u32 >> random.below(32);
+        let q = random.word() as u32 >> random.below(32);
         let whole = unsafe { wide_times(d, q as u64) };
         check_quotient(whole, d);
         let rest = wide(&mut random, 1 + bits as u32);

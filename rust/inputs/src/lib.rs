@@ -1,13 +1,17 @@
-//! Inputs for tests and benchmarks, the same in every run: trains, lines, queries and walks, mostly such as are accepted. A train
-//! has the first values, where it is not asked for with coefficients of its own.
+//! Inputs for tests and benchmarks, the same in every run: trains, lines, queries and walks, mostly such as are accepted; and how
+//! the answers to queries and walks are held to the reference. A train has the first values, where it is not asked for with
+//! coefficients of its own.
 mod coefficients;
+mod held;
 mod seen;
+mod tied;
 mod walk;
 
 use approach::sheet::{self, write, Lists};
 use approach::{query, Approach, Brake, Coefficients, Hundredth, Kmh, Metre, Refusal, Times, Train};
 pub use coefficients::{in_the_ramp, inertia_on_paper, on_paper, Span, SPANS};
-pub use seen::{lent, Found};
+pub use held::{answer_on_paper, without_stretches};
+pub use seen::{beside, lent, Beside, Found};
 use std::collections::BTreeSet;
 pub use walk::Walked;
 
@@ -68,6 +72,11 @@ pub struct Line {
 }
 
 impl Line {
+    /// The number of the stretch that holds a point of the line.
+    pub fn stretch_at(&self, point: u32) -> usize {
+        self.starts.partition_point(|&start| start <= point) - 1
+    }
+
     /// How many bytes its sheet takes.
     pub fn length(&self) -> usize {
         sheet::length(self.starts.len(), self.places.len())
@@ -89,7 +98,7 @@ impl Line {
 pub struct Random(pub u64);
 
 impl Random {
-    pub fn next(&mut self) -> u64 {
+    pub fn word(&mut self) -> u64 {
         self.0 = self.0.wrapping_add(0x9e37_79b9_7f4a_7c15);
         let mut z = self.0;
         z = (z ^ (z >> 30)).wrapping_mul(0xbf58_476d_1ce4_e5b9);
@@ -98,7 +107,7 @@ impl Random {
     }
 
     pub fn below(&mut self, n: u64) -> u64 {
-        self.next() % n
+        self.word() % n
     }
 
     /// Mostly from `least` to `most`, both ends among them, and now and then what lies outside.

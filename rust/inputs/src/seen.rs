@@ -16,6 +16,25 @@ pub fn lent<A>(bytes: &[u8], answer: impl FnOnce(&[u8]) -> A) -> A {
     answer
 }
 
+/// Where a point is that is about a stretch's start.
+#[derive(Clone, Copy, Debug, PartialEq, Eq, PartialOrd, Ord)]
+pub enum Beside {
+    Before,
+    On,
+    Behind,
+}
+
+/// A point that is a stretch's start, or one metre from it, but not both; 0 is the start of every line, and does not count.
+pub fn beside(starts: &[u32], point: u32) -> Option<Beside> {
+    let is_start = |point| starts.binary_search(&point).is_ok();
+    match [point + 1, point, point.saturating_sub(1)].map(|point| point > 0 && is_start(point)) {
+        [true, false, false] => Some(Beside::Before),
+        [false, true, false] => Some(Beside::On),
+        [false, false, true] => Some(Beside::Behind),
+        _ => None,
+    }
+}
+
 /// How often each kind was found.
 pub struct Found<K>(BTreeMap<K, u32>);
 

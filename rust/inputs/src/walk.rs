@@ -26,7 +26,7 @@ impl Walked {
 
 impl Random {
     /// Mostly the start of a stretch, the metre before it or the one behind it; at most a point of the line.
-    fn about_a_start(&mut self, line: &Line, most: u32) -> u32 {
+    pub(crate) fn about_a_start(&mut self, line: &Line, most: u32) -> u32 {
         let begun = line.starts.partition_point(|&start| start <= most);
         let start = line.starts[self.below(begun as u64) as usize];
         let point = match self.below(4) {
@@ -78,14 +78,19 @@ impl Random {
         Walked { sheet: line.written(), line, signal, head, length }
     }
 
-    /// A walk on any line, now and then a long one.
-    pub fn walk(&mut self) -> Walked {
-        let stretches = match self.below(16) {
+    /// Of a line that is a long one now and then.
+    pub(crate) fn stretch_count(&mut self) -> u32 {
+        match self.below(16) {
             0 => 512,
             1 => 1,
             2 => 1 + self.below(512) as u32,
             _ => 1 + self.below_any(&[3, 12, 60]),
-        };
+        }
+    }
+
+    /// A walk on any line.
+    pub fn walk(&mut self) -> Walked {
+        let stretches = self.stretch_count();
         let line = self.line(stretches, 0);
         self.walk_on(line)
     }

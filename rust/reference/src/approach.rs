@@ -1,10 +1,10 @@
 //! The approach query: how fast a train may creep past a closed signal, and how fast it may come up to it (document 01,
-//! "Approach", with document 02's Cards 2 and 5), and the desk's third demand held against any answer.
+//! "Approach", with document 02's Cards 2, 4 and 5), and the desk's third demand held against any answer.
 
 use crate::ceilings::ceilings;
 use crate::fraction::Fraction;
 use crate::ramp::{greatest_place, ramp, ALLOWANCE, DEAD_TIMES, RISE_TIMES, SPEEDS};
-use crate::sheet::{self, least, Sheet, Signal};
+use crate::sheet::{self, governing, held, least, Sheet, Signal};
 use crate::step::{exact_p, step, Curve};
 use crate::train::{Train, EP};
 use crate::units::in_millimetres;
@@ -20,13 +20,16 @@ pub enum Mark {
     Release = 2,
 }
 
-/// Speeds in km/h; the permitted speed's W, SBI and EBI ceilings in 120ths of a km/h.
+/// Speeds in km/h; the permitted speed's W, SBI and EBI ceilings in 120ths of a km/h; by Card 4 the numbers, from 0
+/// along the sheet, of the stretches that govern the overlap, none where it has no length, and the way ahead.
 #[derive(Clone, Copy, Debug, PartialEq, Eq)]
 pub struct Answer {
     pub release: u32,
     pub permitted: u32,
     pub mark: Mark,
     pub ceilings: [u32; 3],
+    pub overlap_stretch: Option<u32>,
+    pub ahead_stretch: u32,
 }
 
 /// Why an answer does not keep the third demand; speeds in km/h.
@@ -58,15 +61,21 @@ impl From<u32> for Fault {
     }
 }
 
-/// What the models need of the sheet: lengths in millimetres, gradients in per mille.
+/// The least gradient of a span in per mille, and the number of the stretch that governs there (Card 4).
+struct Grade {
+    gradient: i32,
+    stretch: u32,
+}
+
+/// What the answer needs of the sheet: lengths in millimetres.
 struct Site {
     overlap: u32,
     /// From the head to the signal.
     distance: u32,
-    /// The gradient of the overlap; none where it has no length.
-    past: Option<i32>,
-    /// The gradient ahead.
-    ahead: i32,
+    /// The grade of the overlap; none where it has no length.
+    past: Option<Grade>,
+    /// The grade ahead.
+    ahead: Grade,
 }
 
 /// Document 02, Card 2, after document 002, section 7.2: a gradient starts at the tail, for the wagons stand on slopes
@@ -85,13 +94,21 @@ pub(crate) fn signal_ahead(bytes: &[u8], number: u32, head: u32) -> Result<(Shee
     Ok((sheet, signal))
 }
 
+/// Over the points `from` up to but not including `to`, of which one at least is on the line.
+fn grade(sheet: &Sheet, from: u32, to: u32) -> Grade {
+    Grade {
+        gradient: least(sheet, from, to).expect("a point on the line").into(),
+        stretch: governing(&held(sheet, from..to)).expect("a point on the line"),
+    }
+}
+
 /// Refusals 1, 2, 3, 6, 12, 7, 8 and 9, in this order: Card 5 decides 12 between 6 and 7, by every coefficient of the
 /// train, whether a model consults it or not.
 ///
 /// The gradient ahead is over the points from the tail to the signal, both included. That of the overlap is over those
 /// from the tail of a train whose head is at the signal up to but not including the overlap's end.
 ///
-/// Document 01 takes the points of a span, fractions of a metre included, and `least` its whole metres. As stretches
+/// Document 01 takes the points of a span, fractions of a metre included, and `grade` its whole metres. As stretches
 /// start at whole metres, a stretch that holds a point holds the whole metre at or before it, which is in the span too.
 fn site(train: Train, tm: u32, tr: u32, bytes: &[u8], number: u32, head: u32) -> Result<Site, u32> {
     train.check()?;
@@ -101,13 +118,13 @@ fn site(train: Train, tm: u32, tr: u32, bytes: &[u8], number: u32, head: u32) ->
     train.coefficients.check()?;
     let (sheet, signal) = signal_ahead(bytes, number, head)?;
     let (place, overlap) = (signal.place, u32::from(signal.overlap));
-    let least_from_tail = |head, to| least(&sheet, tail(train.length, head), to).expect("a signal on the line").into();
+    let grade_from_tail = |head, to| grade(&sheet, tail(train.length, head), to);
     Ok(Site {
         overlap: MILLIMETRES * overlap,
         distance: MILLIMETRES * (place - head),
         // Without a length the overlap consults nothing, though there are points between tail and signal.
-        past: (overlap > 0).then(|| least_from_tail(place, place + overlap)),
-        ahead: least_from_tail(head, place + 1),
+        past: (overlap > 0).then(|| grade_from_tail(place, place + overlap)),
+        ahead: grade_from_tail(head, place + 1),
     })
 }
 
@@ -130,7 +147,7 @@ fn creeps(train: Train) -> RangeInclusive<u32> {
 
 /// The ramp is consulted, and its refusal 10 raised, only where the overlap has a length.
 fn release_speed(train: Train, tm: u32, tr: u32, site: &Site) -> Result<u32, u32> {
-    let Some(gradient) = site.past else {
+    let Some(Grade { gradient, .. }) = site.past else {
         return Ok(0);
     };
     let inertia = train.coefficients.inertia;
@@ -138,7 +155,7 @@ fn release_speed(train: Train, tm: u32, tr: u32, site: &Site) -> Result<u32, u32
     Ok(climb(creeps(train), fits)?.unwrap_or(0))
 }
 
-/// Document 01, "Approach", with Cards 2 and 5: TM and TR in hundredths of a second, head in metres, or the number
+/// Document 01, "Approach", with Cards 2, 4 and 5: TM and TR in hundredths of a second, head in metres, or the number
 /// of a refusal.
 ///
 /// The P distances are the raised ones. They fit exactly where the exact ones do: the distance to the signal is a whole
@@ -148,7 +165,7 @@ fn release_speed(train: Train, tm: u32, tr: u32, site: &Site) -> Result<u32, u32
 pub fn approach(train: Train, tm: u32, tr: u32, sheet: &[u8], signal: u32, head: u32) -> Result<Answer, u32> {
     let site = site(train, tm, tr, sheet, signal, head)?;
     let release = release_speed(train, tm, tr, &site)?;
-    let fits = |v| match step(train, v, release, site.ahead) {
+    let fits = |v| match step(train, v, release, site.ahead.gradient) {
         Err(10) if v > release => Ok(false),
         distances => Ok(distances?[Curve::P as usize] <= site.distance),
     };
@@ -156,12 +173,19 @@ pub fn approach(train: Train, tm: u32, tr: u32, sheet: &[u8], signal: u32, head:
         Some(last) => (last, Mark::Curve),
         None => (release, Mark::Release),
     };
-    Ok(Answer { release, permitted, mark, ceilings: ceilings(permitted)? })
+    Ok(Answer {
+        release,
+        permitted,
+        mark,
+        ceilings: ceilings(permitted)?,
+        overlap_stretch: site.past.map(|grade| grade.stretch),
+        ahead_stretch: site.ahead.stretch,
+    })
 }
 
 /// The third demand's sentences on the motion past the signal, with Card 13's 2 mm for its 5.
 fn keeps_overlap(train: Train, tm: u32, tr: u32, site: &Site, release: u32) -> Result<(), Fault> {
-    let Some(gradient) = site.past else {
+    let Some(Grade { gradient, .. }) = site.past else {
         // Every motion leaves place 0, which is the overlap's end.
         return if release == 0 { Ok(()) } else { Err(Fault::Beyond(1)) };
     };
@@ -191,7 +215,7 @@ fn keeps_overlap(train: Train, tm: u32, tr: u32, site: &Site, release: u32) -> R
 fn keeps_distance(train: Train, site: &Site, answer: Answer) -> Result<(), Fault> {
     let Answer { release, permitted, mark, .. } = answer;
     let distance = Fraction::from(site.distance);
-    let fits = |v| match exact_p(train, v, release, site.ahead) {
+    let fits = |v| match exact_p(train, v, release, site.ahead.gradient) {
         Err(10) if v > release => Err(Fault::Weak(v)),
         Err(refusal) => Err(Fault::Refused(refusal)),
         Ok(p) if p > distance => Err(Fault::Unfit(v)),
@@ -220,7 +244,8 @@ fn keeps_distance(train: Train, site: &Site, answer: Answer) -> Result<(), Fault
 
 /// The desk's third demand of an answer to this query, from wherever it comes: no climb and no ramp answer is used, but
 /// the bounds on the greatest place and the exact P distances. Where a limit lies between two bounds, which are nearer
-/// to each other than a micrometre, the answer is turned down. The ceilings are the second demand's and not looked at.
+/// to each other than a micrometre, the answer is turned down. The ceilings are the second demand's and not looked at,
+/// nor are Card 4's numbers of stretches.
 pub fn keeps_demand(
     train: Train,
     tm: u32,
@@ -251,7 +276,7 @@ const PRINTED_HEAD: u32 = 0;
 
 fn printed_line(sheet: &[u8], number: u32) -> String {
     match approach(EP, PRINTED_TM, PRINTED_TR, sheet, number, PRINTED_HEAD) {
-        Ok(Answer { release, permitted, mark, ceilings: [w, sbi, ebi] }) => {
+        Ok(Answer { release, permitted, mark, ceilings: [w, sbi, ebi], .. }) => {
             format!("{number} {release} {permitted} {mark} {w} {sbi} {ebi}\n")
         }
         Err(refusal) => format!("{number} refused {refusal}\n"),

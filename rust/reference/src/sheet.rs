@@ -1,6 +1,6 @@
 //! The line sheet: a line's stretches and signals in the bytes of document 01, "Line sheet".
 
-use std::ops::RangeInclusive;
+use std::ops::{Range, RangeInclusive};
 
 /// Bytes of the header, and of one stretch or one signal.
 const HEADER: usize = 20;
@@ -162,4 +162,30 @@ fn gradient_at(sheet: &Sheet, point: u32) -> i16 {
 pub fn least(sheet: &Sheet, from: u32, to: u32) -> Option<i16> {
     // No stretch holds the line end.
     (from..to.min(sheet.end)).map(|point| gradient_at(sheet, point)).min()
+}
+
+/// From each start up to the next one or the line end, that point excluded.
+fn reaches(sheet: &Sheet) -> impl Iterator<Item = Range<u32>> + '_ {
+    let starts = sheet.stretches.iter().map(|stretch| stretch.start);
+    let ends = starts.clone().skip(1).chain([sheet.end]);
+    starts.zip(ends).map(|(start, end)| start..end)
+}
+
+/// Whether a point is in both.
+fn meet(reach: &Range<u32>, span: &Range<u32>) -> bool {
+    reach.start.max(span.start) < reach.end.min(span.end)
+}
+
+/// Number and gradient of each stretch that holds a point of the span, in the order of the sheet.
+pub fn held(sheet: &Sheet, span: Range<u32>) -> Vec<(u32, i16)> {
+    let gradients = sheet.stretches.iter().map(|stretch| stretch.gradient);
+    let numbered = (0..).zip(gradients).zip(reaches(sheet));
+    numbered.filter(|(_, reach)| meet(reach, &span)).map(|(stretch, _)| stretch).collect()
+}
+
+/// Document 02, Card 4: the number of the stretch that has the least gradient, the lowest among equals. Of stretches
+/// told as `held` tells them, in any order; none where there are none.
+pub fn governing(stretches: &[(u32, i16)]) -> Option<u32> {
+    let governing = stretches.iter().min_by_key(|&&(number, gradient)| (gradient, number));
+    governing.map(|&(number, _)| number)
 }

@@ -12,6 +12,7 @@ use crate::train::Train;
 use std::fmt::Display;
 
 mod own;
+mod tie;
 mod walk;
 
 /// Whether freight, and whether the electropneumatic brake works.
@@ -71,6 +72,11 @@ const TAIL_WAY: u32 = 250;
 const HEADS_FROM_0: [u32; 2] = [0, 250];
 /// On, 1 m before and 1 m behind a start is then the tail, or the tail of the train with its head at the signal.
 const HEADS_FROM_L: [u32; 12] = [49, 50, 51, 299, 300, 301, 949, 950, 951, 1199, 1200, 1201];
+
+/// What the lines of every approach query have behind their inputs.
+const QUERY_ANSWER: &str = " = refusal release permitted mark W SBI EBI overlap_stretch ahead_stretch\n";
+/// Card 4: told for the overlap's stretch where the overlap has no length.
+const NO_STRETCH: u32 = 65_535;
 
 /// The lines so far.
 struct Lines(String);
@@ -265,10 +271,12 @@ fn sheet_table(lines: &mut Lines) {
     }
 }
 
-/// Release, permitted, mark, and the W, SBI and EBI ceilings.
-fn queried(train: Train, (tm, tr): (u32, u32), sheet: &[u8], signal: u32, head: u32) -> Result<[i64; 6], u32> {
-    let Answer { release, permitted, mark, ceilings: [w, sbi, ebi] } = approach(train, tm, tr, sheet, signal, head)?;
-    Ok([release, permitted, mark as u32, w, sbi, ebi].map(i64::from))
+/// Release, permitted, mark, the W, SBI and EBI ceilings, and the stretches that govern the overlap and the way ahead.
+fn queried(train: Train, (tm, tr): (u32, u32), sheet: &[u8], signal: u32, head: u32) -> Result<[i64; 8], u32> {
+    let answer = approach(train, tm, tr, sheet, signal, head)?;
+    let Answer { release, permitted, mark, ceilings: [w, sbi, ebi], overlap_stretch, ahead_stretch } = answer;
+    let overlap_stretch = overlap_stretch.unwrap_or(NO_STRETCH);
+    Ok([release, permitted, mark as u32, w, sbi, ebi, overlap_stretch, ahead_stretch].map(i64::from))
 }
 
 /// Every signal of one sheet, and one past the last, from each head.
@@ -284,7 +292,7 @@ fn query_lines(lines: &mut Lines, train: Train, (tm, tr): (u32, u32), overlap: u
 }
 
 fn query_table(lines: &mut Lines) {
-    lines.word("# query freight EP BW L top TM TR i overlap signal head = refusal release permitted mark W SBI EBI\n");
+    lines.word("# query freight EP BW L top TM TR i overlap signal head").word(QUERY_ANSWER);
     for top_speed in TOP_SPEEDS {
         for train in BRAKED_WEIGHTS.into_iter().flat_map(|braked_weight| trains(braked_weight, 600, top_speed)) {
             for (times, overlap) in TIMES[..2].iter().flat_map(|times| QUERY_OVERLAPS.map(|overlap| (times, overlap))) {
@@ -305,7 +313,7 @@ fn tail_line(lines: &mut Lines, length: u32, gradient: i16, overlap: u16, head: 
 }
 
 fn tail_table(lines: &mut Lines) {
-    lines.word("# tail L i overlap head = refusal release permitted mark W SBI EBI\n");
+    lines.word("# tail L i overlap head").word(QUERY_ANSWER);
     for length in TAIL_LENGTHS {
         for gradient in TAIL_GRADIENTS {
             for overlap in TAIL_OVERLAPS {
@@ -332,5 +340,7 @@ pub fn printed() -> String {
     own::ramp_table(&mut lines);
     own::query_table(&mut lines);
     walk::back_table(&mut lines);
+    tie::tie_table(&mut lines);
+    tie::tie_back_table(&mut lines);
     lines.0
 }

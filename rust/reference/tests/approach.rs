@@ -1,6 +1,7 @@
 //! Document 01's approach query: its printed lines, its refusals, the ends of its spans, which Card 2 of document 02 has
 //! start at the tail, and the desk's third demand.
 
+use answers::{answer, without_stretches};
 use numbers::Numbers;
 use reference::approach::{approach, keeps_demand, printed, Answer, Fault, Mark};
 use reference::ceilings::ceilings;
@@ -13,6 +14,7 @@ use reference::train::{Train, EP};
 use reference::units::{in_millimetres, millimetres};
 use std::collections::BTreeMap;
 
+mod answers;
 mod numbers;
 
 /// The sheet that document 01 prints: one level stretch, signals at 0 and 1,057 m, line end 2,000 m.
@@ -58,7 +60,7 @@ impl Query {
     }
 
     fn run(&self) -> Result<Answer, u32> {
-        approach(self.train, self.tm, self.tr, &self.sheet, self.signal, self.head)
+        approach(self.train, self.tm, self.tr, &self.sheet, self.signal, self.head).map(without_stretches)
     }
 
     fn answer(&self) -> Answer {
@@ -68,10 +70,6 @@ impl Query {
     fn verdict(&self, answer: Answer) -> Result<(), Fault> {
         keeps_demand(self.train, self.tm, self.tr, &self.sheet, self.signal, self.head, answer)
     }
-}
-
-fn answer(release: u32, permitted: u32, mark: Mark) -> Answer {
-    Answer { release, permitted, mark, ceilings: ceilings(permitted).expect("a speed within its span") }
 }
 
 impl Numbers {
@@ -207,7 +205,7 @@ fn prints_what_the_query_answers() {
         let bytes = sheet::bytes(&fields);
         let line = |signal| match (Query { signal, ..Query::new(bytes.clone()) }).run() {
             Err(refusal) => format!("{signal} refused {refusal}\n"),
-            Ok(Answer { release, permitted, mark, ceilings: [w, sbi, ebi] }) => {
+            Ok(Answer { release, permitted, mark, ceilings: [w, sbi, ebi], .. }) => {
                 let mark = if mark == Mark::Curve { "curve" } else { "release" };
                 format!("{signal} {release} {permitted} {mark} {w} {sbi} {ebi}\n")
             }

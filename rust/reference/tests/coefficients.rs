@@ -1,9 +1,9 @@
 //! Document 02, Card 5: a train's own coefficients in every model, against figures worked out by hand and against whole
 //! numbers, which share nothing with the reference's fractions.
 
+use answers::{answer, without_stretches};
 use numbers::Numbers;
 use reference::approach::{approach, keeps_demand, Answer, Fault, Mark};
-use reference::ceilings::ceilings;
 use reference::coefficients::{Coefficients, Inertia, FIRST_VALUES};
 use reference::fraction::Fraction;
 use reference::ramp::{goes_farther, greatest_place, keeps_promise, ramp, Stop};
@@ -11,6 +11,7 @@ use reference::sheet::write;
 use reference::step::{exact_p, row, step, Curve};
 use reference::train::{self, di, Train};
 
+mod answers;
 mod numbers;
 
 /// Document 01's "EP", with the highest top speed; dr is 0.779 m/s².
@@ -73,15 +74,11 @@ fn line(stretches: &[(u32, i16)], place: u32, overlap: u16) -> Vec<u8> {
 
 /// With TM 200, TR 400 and head 0.
 fn query(train: Train, sheet: &[u8]) -> Result<Answer, u32> {
-    approach(train, 200, 400, sheet, 0, 0)
+    approach(train, 200, 400, sheet, 0, 0).map(without_stretches)
 }
 
 fn verdict(train: Train, sheet: &[u8], answer: Answer) -> Result<(), Fault> {
     keeps_demand(train, 200, 400, sheet, 0, 0, answer)
-}
-
-fn answer(release: u32, permitted: u32, mark: Mark) -> Answer {
-    Answer { release, permitted, mark, ceilings: ceilings(permitted.min(330)).expect("a speed within its span") }
 }
 
 /// Section 7.2 in ten-millionths of a m/s²: hundredths, 9.81 and per mille.
@@ -745,8 +742,8 @@ fn lines_of_the_tables() {
         "own_ramp 79 100 110 0 -21 36 1 = 5 0 0",
         "own_ramp 79 100 110 0 -21 11 101 = 3 0 0",
         "own_ramp 79 100 110 0 -21 11 1 = 12 0 0",
-        "own_query 200 50 30 10 -10 0 90 100 110 0 -21 -10 0 0 = 0 0 36 1 4800 4920 5220",
-        "own_query 130 10 29 5 0 150 90 100 110 0 -21 0 0 0 = 12 0 0 0 0 0 0",
+        "own_query 200 50 30 10 -10 0 90 100 110 0 -21 -10 0 0 = 0 0 36 1 4800 4920 5220 65535 0",
+        "own_query 130 10 29 5 0 150 90 100 110 0 -21 0 0 0 = 12 0 0 0 0 0 0 0 0",
     ] {
         assert!(printed.lines().any(|printed| printed == line), "{line}");
     }

@@ -1,6 +1,9 @@
-//! Document 01's line sheet: its example, its rules broken one by one, the round trips and the least gradients.
+//! Document 01's line sheet: its example, its rules broken one by one, the round trips, the least gradients, and which
+//! stretches have them.
 
-use reference::sheet::{bytes, keeps, least, next, read, signal, stretch, write, Sheet, Signal, Stretch};
+use reference::sheet::{
+    bytes, governing, held, keeps, least, next, read, signal, stretch, write, Sheet, Signal, Stretch,
+};
 
 /// The sheet that document 01 prints: one level stretch, signals at 0 and 1,057 m, line end 2,000 m.
 const EXAMPLE: &str = "01 00 02 00 14 00 00 00 1A 00 00 00 26 00 00 00 D0 07 00 00 \
@@ -221,4 +224,44 @@ fn least_gradients() {
     }
     // The least lies inside the span, and at neither end of it.
     assert_eq!(least(&sheet(&[(0, 4), (10, -3), (11, 2)], &[], 20), 0, 20), Some(-3));
+}
+
+#[test]
+fn stretches_that_hold_a_point() {
+    let line = line();
+    let (first, second, third) = ((0, -5), (1, 35), (2, -35));
+    for (from, to, wanted) in [
+        (0, 1, vec![first]),
+        (0, 400, vec![first]),
+        (399, 401, vec![first, second]),
+        (400, 401, vec![second]),
+        (400, 700, vec![second]),
+        (399, 701, vec![first, second, third]),
+        (699, 1000, vec![second, third]),
+        (999, 1000, vec![third]),
+        (999, u32::MAX, vec![third]),
+        (0, u32::MAX, vec![first, second, third]),
+        (0, 0, vec![]),
+        (500, 500, vec![]),
+        (500, 499, vec![]),
+        (1000, 1001, vec![]),
+    ] {
+        assert_eq!(held(&line, from..to), wanted, "{from} up to {to}");
+    }
+}
+
+/// Document 02, Card 4.
+#[test]
+fn governing_stretches() {
+    for (stretches, number) in [
+        (vec![], None),
+        (vec![(7, 35)], Some(7)),
+        (vec![(3, 1), (4, 0), (5, 1)], Some(4)),
+        (vec![(3, 1), (4, -35), (5, 35), (6, -34)], Some(4)),
+        (vec![(3, 1), (4, -2), (5, 0), (6, -2)], Some(4)),
+    ] {
+        assert_eq!(governing(&stretches), number, "{stretches:?}");
+        let back: Vec<(u32, i16)> = stretches.into_iter().rev().collect();
+        assert_eq!(governing(&back), number, "{back:?}");
+    }
 }

@@ -1,5 +1,6 @@
 //! Document 02's Card 3: the steps on lines worked by hand, their refusals, and all of them found by another way.
 
+use answers::without_stretches;
 use numbers::Numbers;
 use reference::approach::approach;
 use reference::sheet::{self, keeps, least, Sheet, Signal, Stretch};
@@ -7,6 +8,7 @@ use reference::train::{Train, EP};
 use reference::walk::{back, walk, Step};
 use std::collections::BTreeMap;
 
+mod answers;
 mod numbers;
 
 fn sheet(stretches: &[(u32, i16)], places: &[u32], end: u32) -> Vec<u8> {
@@ -25,7 +27,7 @@ fn line(place: u32) -> Vec<u8> {
 /// Stretch, gradient and least of each step on `line`.
 fn steps(place: u32, head: u32, length: u32) -> Vec<(u32, i16, i16)> {
     let steps = walk(&line(place), 0, head, length).expect("an accepted walk");
-    steps.into_iter().map(|Step { stretch, gradient, least }| (stretch, gradient, least)).collect()
+    steps.into_iter().map(|Step { stretch, gradient, least, .. }| (stretch, gradient, least)).collect()
 }
 
 #[test]
@@ -92,7 +94,8 @@ fn one_stretch_for_signal_and_tail() {
     assert_eq!(steps(799, 700, 101), [(4, 12, 12), (3, -8, -8)]);
     assert_eq!(steps(599, 599, 199), [(3, -8, -8)]);
     // A line of one stretch and one metre.
-    assert_eq!(walk(&sheet(&[(0, 35)], &[0], 1), 0, 0, 1000), Ok(vec![Step { stretch: 0, gradient: 35, least: 35 }]));
+    let only = Step { stretch: 0, gradient: 35, least: 35, least_stretch: 0 };
+    assert_eq!(walk(&sheet(&[(0, 35)], &[0], 1), 0, 0, 1000), Ok(vec![only]));
 }
 
 #[test]
@@ -160,13 +163,13 @@ fn no_signals() {
 #[test]
 fn steps_past_the_tail() {
     let line = line(401);
-    assert_eq!(back(&line, 0, 300, 200, 0), Ok(Some(Step { stretch: 3, gradient: -8, least: -8 })));
-    assert_eq!(back(&line, 0, 300, 200, 2), Ok(Some(Step { stretch: 1, gradient: -3, least: -8 })));
+    assert_eq!(back(&line, 0, 300, 200, 0), Ok(Some(Step { stretch: 3, gradient: -8, least: -8, least_stretch: 3 })));
+    assert_eq!(back(&line, 0, 300, 200, 2), Ok(Some(Step { stretch: 1, gradient: -3, least: -8, least_stretch: 3 })));
     // There is a stretch 0, and numbers below it there are not.
     for step in [3, 4, 5, 255, 256, 65_535, 65_536, i32::MAX as u32, u32::MAX - 1, u32::MAX] {
         assert_eq!(back(&line, 0, 300, 200, step), Ok(None), "{step}");
     }
-    assert_eq!(back(&line, 0, 0, 0, 3), Ok(Some(Step { stretch: 0, gradient: 5, least: -8 })));
+    assert_eq!(back(&line, 0, 0, 0, 3), Ok(Some(Step { stretch: 0, gradient: 5, least: -8, least_stretch: 3 })));
     for step in [4, 5, u32::MAX] {
         assert_eq!(back(&line, 0, 0, 0, step), Ok(None), "{step}");
     }
@@ -180,8 +183,9 @@ fn as_many_stretches_as_there_can_be() {
     let steps = walk(&sheet, 0, 511, 1000).expect("an accepted walk");
     assert_eq!(steps.len(), 512);
     for (number, step) in (0..512).rev().zip(&steps) {
-        let wanted = (number..512).map(gradient).min().expect("the signal's own");
-        assert_eq!(*step, Step { stretch: number, gradient: gradient(number), least: wanted });
+        let walked = (number..512).map(|number| (gradient(number), number));
+        let (least, least_stretch) = walked.min().expect("the signal's own");
+        assert_eq!(*step, Step { stretch: number, gradient: gradient(number), least, least_stretch });
     }
     assert_eq!(back(&sheet, 0, 511, 1000, 511), Ok(steps.last().copied()));
     assert_eq!(back(&sheet, 0, 511, 1000, 512), Ok(None));
@@ -221,8 +225,9 @@ impl Walk {
         for (stretch, gradient) in falling.map(|point| self.holding(point)) {
             let last = steps.last().copied();
             if last.is_none_or(|last| last.stretch != stretch) {
-                let least = last.map_or(gradient, |last| last.least.min(gradient));
-                steps.push(Step { stretch, gradient, least });
+                let found = last.map(|last| (last.least, last.least_stretch));
+                let (least, least_stretch) = found.into_iter().chain([(gradient, stretch)]).min().expect("its own");
+                steps.push(Step { stretch, gradient, least, least_stretch });
             }
         }
         steps
@@ -331,7 +336,9 @@ fn the_query_rests_on_the_last_least() {
     for _ in 0..300 {
         let walk = numbers.walk(3000, 12);
         let train = Train { braked_weight: 160, length: walk.length, top_speed: 160, ..EP };
-        let query = |sheet: &Sheet| approach(train, 200, 400, &sheet::bytes(sheet), walk.signal, walk.head);
+        let query = |sheet: &Sheet| {
+            approach(train, 200, 400, &sheet::bytes(sheet), walk.signal, walk.head).map(without_stretches)
+        };
         let steps = walk.steps();
         let ahead = steps.last().expect("the signal's own").least;
         let with = |gradient: i16| {

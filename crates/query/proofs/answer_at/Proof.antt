@@ -35,15 +35,15 @@ returns c =
     let a = s .before .args in
     let h : Permits (a .k) (a .train) (a .ahead) (a .release) (a .distance) Weak = rw (c .before .enum-told .given .1) at (s .speed .ensures) in
     let e : c .refused-with .result ≡ refused 10 = c .refused-with .ensures in
-    e ∙ as-permitted (a .k) (a .train) (a .ahead) (a .distance) (a .release) Weak h
+    e ∙ as-permitted (a .k) (a .train) (a .ahead) (a .distance) (a .governing) (a .release) Weak h
 
 returns-2 : tie.Need-returns-2
 returns-2 c =
     let s = c .before .before .before in
     let a = s .before .args in
     let h : Permits (a .k) (a .train) (a .ahead) (a .release) (a .distance) Release = rw (c .before .enum-told2 .given .1) at (s .speed .ensures) in
-    let e : c .given .result ≡ answered (a .release) (a .release) onRelease = c .given .ensures in
-    e ∙ as-permitted (a .k) (a .train) (a .ahead) (a .distance) (a .release) Release h
+    let e : c .given .result ≡ answered (a .governing) (a .release) (a .release) onRelease = c .given .ensures in
+    e ∙ as-permitted (a .k) (a .train) (a .ahead) (a .distance) (a .governing) (a .release) Release h
 
 returns-3 : tie.Need-returns-3
 returns-3 c =
@@ -52,8 +52,8 @@ returns-3 c =
     let a = s .before .args in
     let v = p .permitted .given .0 .0 in
     let h : Permits (a .k) (a .train) (a .ahead) (a .release) (a .distance) (Curve v) = rw (p .permitted .given .1) at (s .speed .ensures) in
-    let e : c .given2 .result ≡ answered (a .release) v onCurve = c .given2 .ensures in
-    e ∙ as-permitted (a .k) (a .train) (a .ahead) (a .distance) (a .release) (Curve v) h
+    let e : c .given2 .result ≡ answered (a .governing) (a .release) v onCurve = c .given2 .ensures in
+    e ∙ as-permitted (a .k) (a .train) (a .ahead) (a .distance) (a .governing) (a .release) (Curve v) h
 
 pub answer-at-spec : {M : Type 1} → statement M
 answer-at-spec =

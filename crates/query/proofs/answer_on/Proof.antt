@@ -40,15 +40,15 @@ returns c =
     let s = c .before .before .before in
     let a = s .before .before .before .before .before .before .before .args in
     let h : Releases (a .k .inertia) (pastAt (a .train) (a .tm) (a .tr) (a .w) 1) (a .w .overlap) (a .train .top) Weak = rw (c .before .enum-told .given .1) at (s .speed .ensures) in
-    c .refused-with .ensures ∙ as-released (a .k) (a .train) (a .tm) (a .tr) (a .w) Weak h
+    c .refused-with .ensures ∙ as-released (a .k) (a .train) (a .tm) (a .tr) (a .w) (a .governing) Weak h
 
 returns-2 : tie.Need-returns-2
 returns-2 c =
     let f = c .before in
     let a = f .before .before .before .before .before .before .before .before .before .before .args in
     let v = f .before .release .given .0 .0 in
-    let e : c .answer-at .result ≡ answerAt (a .k) (a .train) (a .w .ahead) (a .w .distance) v = c .answer-at .ensures in
-    e ∙ as-released (a .k) (a .train) (a .tm) (a .tr) (a .w) (Speed v) (found f)
+    let e : c .answer-at .result ≡ answerAt (a .k) (a .train) (a .w .ahead) (a .w .distance) (a .governing) v = c .answer-at .ensures in
+    e ∙ as-released (a .k) (a .train) (a .tm) (a .tr) (a .w) (a .governing) (Speed v) (found f)
 
 pub answer-on-spec : {M : Type 1} → statement M
 answer-on-spec =

@@ -8,7 +8,7 @@ use Rattle.query.proofs.query.Statement.{statement}
 use Rattle.query.proofs.query.Tie as tie
 
 ready : (c : tie.After-known-told2) → let f = c .before in let a = f .before .before .before .before .args in
-    IsReady (a .k) (a .train) (a .tm) (a .tr) (now (a .s)) (a .signal) (a .head .0) (f .found2 .given .0 .0)
+    IsReady (a .k) (a .train) (a .tm) (a .tr) (now (a .s)) (a .signal) (a .head .0) (f .found2 .given .0 .0) (f .found2 .given .0 .1 .0)
 ready c = rw (c .before .found2 .given .1) at (c .before .before .before .start .ensures)
 
 start-requires : tie.Need-start-requires
@@ -38,7 +38,7 @@ returns-2 c =
     let r = c .before in
     let a = r .before .before .before .before .before .args in
     let i = ready r in
-    rw (c .answer-on .ensures, i .way) (on-way (a .k) (a .train) (a .tm) (a .tr) (now (a .s)) (a .signal) (a .head .0) (i .accepted) (rw (i .way) at (i .fit)) (rw (i .way) at (i .leads)))
+    rw (c .answer-on .ensures, i .way, i .governing) (on-way (a .k) (a .train) (a .tm) (a .tr) (now (a .s)) (a .signal) (a .head .0) (i .accepted) (rw (i .way) at (i .fit)) (rw (i .way, i .governing) at (i .leads)))
 
 pub query-spec : {M : Type 1} → statement M
 query-spec =

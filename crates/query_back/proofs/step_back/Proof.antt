@@ -1,9 +1,9 @@
 -- `step_back`: the length's refusal, the sheet's, else a step of the walk to the tail.
 use borrow.Author.Needs.{needs}
 use denote.Ref.{now}
-use mathlib.Core.Path.{_≡_, sym, ap, subst, _∙_}
+use mathlib.Core.Path.{_≡_, ap, subst, _∙_}
 use native.Mathlib.Omega.{arith}
-use Prim.Native.Nat.{ℕ, _≤_, _<_}
+use Prim.Native.Nat.{ℕ}
 use Rattle.train.specs.declared.Metre.{Metre}
 use Rattle.sheet.specs.Sheet.{lineOf}
 use Rattle.sheet.proofs.Kept.{headed-of}

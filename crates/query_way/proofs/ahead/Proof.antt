@@ -8,7 +8,7 @@ use Rattle.sheet.specs.Sheet.{lineOf}
 use Rattle.sheet.proofs.Kept.{headed-of}
 use Rattle.sheet_span.specs.Least.{LeastOver}
 use Rattle.query_way.specs.Way.{tailOf}
-use Rattle.query_way.proofs.Ways.{slope-of}
+use Rattle.query_way.proofs.Ways.{grade-over}
 use Rattle.query_way.proofs.ahead.Statement.{statement}
 use Rattle.query_way.proofs.ahead.Tie as tie
 
@@ -24,8 +24,8 @@ returns c =
     let a = s .args in
     let l = lineOf (now (a .s)) in
     let from : c .before .tail .result .0 ≡ tailOf (a .head .0) (a .length .0) = c .before .tail .ensures in
-    let e : LeastOver l (c .before .tail .result .0) (a .place .0 + 1) (c .least .result) = c .least .ensures in
-    slope-of l (tailOf (a .head .0) (a .length .0)) (a .place .0 + 1) _ (headed-of _ (s .pre .0) .1) (subst (λ x. LeastOver l x (a .place .0 + 1) (c .least .result)) from e)
+    let e : LeastOver l (c .before .tail .result .0) (a .place .0 + 1) (c .least .result .gradient) (c .least .result .stretch) = c .least .ensures in
+    grade-over l (tailOf (a .head .0) (a .length .0)) (a .place .0 + 1) _ (headed-of _ (s .pre .0) .1) (subst (λ x. LeastOver l x (a .place .0 + 1) (c .least .result .gradient) (c .least .result .stretch)) from e)
 
 pub ahead-spec : {M : Type 1} → statement M
 ahead-spec = tie.close (tie.spec tail-requires least-requires returns)

@@ -1,13 +1,12 @@
 -- `find`: the signal's refusal, else the way.
 use borrow.Author.Needs.{needs}
 use denote.Ref.{now}
-use mathlib.Core.Path.{_≡_, sym, subst, ap, _∙_}
+use mathlib.Core.Path.{_≡_, _∙_}
 use Prim.Native.Nat.{_+_, _≤_, _<_}
 use native.Mathlib.Omega.{arith}
-use Rattle.train.specs.declared.Metre.{Metre}
 use Rattle.sheet.specs.Sheet.{lineOf}
 use Rattle.sheet_lookup.specs.Counts.{IsSignal}
-use Rattle.query_way.proofs.Ways.{on-line, way-of, leads-of}
+use Rattle.query_way.proofs.Ways.{on-line, way-of, governing-of, leads-of}
 use Rattle.query_way.proofs.find.Statement.{statement}
 use Rattle.query_way.proofs.find.Tie as tie
 
@@ -41,21 +40,25 @@ past-requires c κs = let e = c .before .before .before in (held e .sheet, stand
 
 returns-2 : tie.Need-returns-2
 returns-2 c =
-    let e = c .before .before .before .before in
+    let p = c .before .before in
+    let e = p .before .before .before .before in
     let i = held e in
     let r = e .before .before .before .signal-ahead in
     let a = e .before .before .before .before .before .args in
     let l = lineOf (now (a .s)) in
     let z : r .result .refusal ≡ 0 = omega (arith, e .if1 .left) in
+    let ahead = p .before .ahead in
+    let past = p .past in
     record {
       refused = r .ensures .refused ∙ z;
       spans = rw z at (r .ensures .spans);
       says =
           record {
-            way = way-of l (a .signal) (a .head .0) (a .length .0) _ _ _ _ (i .place) (i .overlap) (c .before .ahead .ensures .least .value) (c .past .ensures .value);
-            leads = leads-of l (a .signal) (a .head .0) (a .length .0) _ _ _ _ (i .place) (i .overlap) (stands e .0) (c .before .ahead .ensures) (c .past .ensures);
-            ahead = c .before .ahead .ensures .moderate;
-            past = c .past .ensures .moderate;
+            way = way-of l (a .signal) (a .head .0) (a .length .0) _ _ (ahead .result) (past .result) (i .place) (i .overlap) (ahead .ensures .least .value) (past .ensures .value);
+            governing = governing-of l (a .signal) (a .head .0) (a .length .0) _ _ (ahead .result) (past .result) (i .place) (i .overlap) (ahead .ensures .least .number) (past .ensures .number);
+            leads = leads-of l (a .signal) (a .head .0) (a .length .0) _ _ (ahead .result) (past .result) (i .place) (i .overlap) (stands e .0) (ahead .ensures) (past .ensures);
+            ahead = ahead .ensures .moderate;
+            past = past .ensures .moderate;
           };
     }
 

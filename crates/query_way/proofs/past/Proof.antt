@@ -35,8 +35,8 @@ returns-2 c =
     let h = c .before .before .if1 .left in
     let from : c .before .tail .result .0 ≡ tailOf (a .place .0) (a .length .0) = c .before .tail .ensures in
     let to : a .place .0 + a .overlap .0 - 1 + 1 ≡ a .place .0 + a .overlap .0 = omega arith in
-    let e : LeastOver l (c .before .tail .result .0) (a .place .0 + a .overlap .0 - 1 + 1) (c .least .result) = c .least .ensures in
-    let o = subst (λ (x : ℕ). LeastOver l x (a .place .0 + a .overlap .0) (c .least .result)) from (subst (λ (y : ℕ). LeastOver l (c .before .tail .result .0) y (c .least .result)) to e) in
+    let e : LeastOver l (c .before .tail .result .0) (a .place .0 + a .overlap .0 - 1 + 1) (c .least .result .gradient) (c .least .result .stretch) = c .least .ensures in
+    let o = subst (λ (x : ℕ). LeastOver l x (a .place .0 + a .overlap .0) (c .least .result .gradient) (c .least .result .stretch)) from (subst (λ (y : ℕ). LeastOver l (c .before .tail .result .0) y (c .least .result .gradient) (c .least .result .stretch)) to e) in
     some-overlap l (a .place .0) (a .overlap .0) (a .length .0) _ (headed-of _ (s .pre .0) .1) h o
 
 pub past-spec : {M : Type 1} → statement M

@@ -6,11 +6,12 @@ use mathlib.Core.Path.{sym, ap, subst, _∙_}
 use mir.Syntax.{w32}
 use mir.ValLaws.{toZ-ofZ}
 use native.Mathlib.Omega.{arith}
-use Prim.Native.Nat.{ℕ, suc, _<_, _≤_}
+use Prim.Native.Nat.{ℕ, suc, _<_}
 use Rattle.sheet.specs.Sheet.{lineOf}
 use Rattle.sheet.proofs.Kept.{headed-of}
 use Rattle.sheet_span.specs.Least.{stretchAt}
 use Rattle.sheet_walk.specs.declared.Walk.{Walk}
+use Rattle.sheet_walk.proofs.Walks.{further-stretch}
 use Rattle.sheet_walk.proofs.Steps.{Spans, Underway, begins, more, goes-on, numbered, arrived, all-steps}
 use Rattle.sheet_walk.proofs.least.Statement.{statement}
 use Rattle.sheet_walk.proofs.least.Tie as tie
@@ -57,7 +58,7 @@ loop-less c =
     let i = c .before .before .before in
     let (n, u) = under i in
     let m = more (spans (i .before .before .before)) u (left (c .before)) in
-    omega (arith, ap (λ (w : Walk). w .stretch) (c .onward .ensures))
+    omega (arith, ap (λ (w : Walk). w .stretch) (c .onward .ensures) ∙ further-stretch (lineOf (now (i .before .before .before .args .s))) (i .loop .walk))
 
 loop-again : tie.Need-loop-again Inv-loop μ-loop
 loop-again c =

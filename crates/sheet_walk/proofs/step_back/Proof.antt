@@ -2,18 +2,17 @@
 use borrow.Author.Needs.{needs}
 use borrow.Author.Tests.{ltb-true, ltb-false, not-true, not-false}
 use denote.Ref.{now}
-use mathlib.Core.Path.{_≡_, sym, ap, subst, _∙_}
+use mathlib.Core.Path.{_≡_, sym, subst, _∙_}
 use mir.Syntax.{w32}
-use mir.Val.{toZ, ofZ}
 use mir.ValLaws.{toZ-ofZ}
 use native.Mathlib.Numerals.{add-one}
 use native.Mathlib.Omega.{arith}
-use Prim.Native.Nat.{ℕ, suc, _+_, _-_, _<_, _≤_}
+use Prim.Native.Nat.{ℕ, _+_, _-_, _<_, _≤_}
 use Rattle.sheet.specs.Sheet.{lineOf}
 use Rattle.sheet.proofs.Kept.{headed-of}
 use Rattle.sheet_span.specs.Least.{stretchAt}
 use Rattle.sheet_walk.specs.declared.Walk.{Walk}
-use Rattle.sheet_walk.specs.Back.{ended, backOn}
+use Rattle.sheet_walk.specs.Back.{backOn}
 use Rattle.sheet_walk.proofs.Steps.{Spans, Underway, begins, more, goes-on, numbered, at-step, past-all, steps-hold}
 use Rattle.sheet_walk.proofs.step_back.Statement.{statement}
 use Rattle.sheet_walk.proofs.step_back.Tie as tie
@@ -89,7 +88,7 @@ returns-2 c =
     let g = toZ-ofZ w32 (w .gradient) (record { sfits = c .struct-told .given .1 .0 .1 }) in
     let m = toZ-ofZ w32 (w .least) (record { sfits = c .struct-told .given .1 .1 .0 .1 }) in
     let n : i .loop .taken ≡ b .args .step = omega (arith, c .before .loop-test .left, i .loop .inv .1) in
-    let e = subst (λ (k : ℕ). record { refusal = 0; end = 0; stretch = w .stretch; gradient = w .gradient; least = w .least } ≡ backOn (lineOf (now (b .args .s))) (b .args .first .0) (b .args .last .0) k) n (at-step a (under i)) in
+    let e = subst (λ (k : ℕ). record { refusal = 0; end = 0; stretch = w .stretch; gradient = w .gradient; least = w .least; «least_stretch» = w .«least_stretch» } ≡ backOn (lineOf (now (b .args .s))) (b .args .first .0) (b .args .last .0) k) n (at-step a (under i)) in
     simp (g, m) (e, steps-hold _ a _ _ e)
 
 pub step-back-spec : {M : Type 1} → statement M

@@ -1,8 +1,8 @@
 //! The drawing of a case, as an SVG.
 use crate::notes::notes;
-use crate::picture::{metres, Case, Picture, Point, BOTTOM, LEFT, LEGEND, LINE, RIGHT, TOP, WIDTH};
+use crate::picture::{metres, Case, Picture, BOTTOM, LEGEND, TOP};
+use crate::svg::{add, document, frame, line, text, upright, Point, LEFT, LINE, RIGHT};
 use approach::{Curve, Kmh, Millimetre, Train, CURVES};
-use std::fmt::Write;
 
 fn meaning(curve: Curve) -> &'static str {
     match curve {
@@ -54,23 +54,7 @@ fn speed_axis(out: &mut String, picture: &Picture) {
         line(out, (LEFT, y), (RIGHT, y));
         text(out, (LEFT - 8.0, y + 4.0), "end", &v.0.to_string());
     }
-    let (x, y) = (24.0, (TOP + BOTTOM) / 2.0);
-    let turned = format!(r#"<text x="{x}" y="{y}" text-anchor="middle" transform="rotate(-90 {x} {y})">"#);
-    add(out, &format!("{turned}speed in km/h</text>"));
-}
-
-/// Ends the line; a text has no failure.
-fn add(out: &mut String, element: &str) {
-    writeln!(out, "{element}").expect("a text to write to");
-}
-
-fn line(out: &mut String, from: Point, to: Point) {
-    let ((x1, y1), (x2, y2)) = (from, to);
-    add(out, &format!(r##"<line x1="{x1:.1}" y1="{y1:.1}" x2="{x2:.1}" y2="{y2:.1}" stroke="#d8d8d8"/>"##));
-}
-
-fn text(out: &mut String, (x, y): Point, anchor: &str, words: &str) {
-    add(out, &format!(r#"<text x="{x:.1}" y="{y:.1}" text-anchor="{anchor}">{words}</text>"#));
+    upright(out, (TOP + BOTTOM) / 2.0, "speed in km/h");
 }
 
 fn curve_line(out: &mut String, curve: Curve, points: &[Point]) {
@@ -94,11 +78,7 @@ fn legend_height(notes: &[String]) -> f64 {
 }
 
 fn legend(out: &mut String, notes: &[String]) {
-    let (width, height) = (RIGHT - LEFT, legend_height(notes));
-    add(
-        out,
-        &format!(r#"<rect x="{LEFT}" y="{LEGEND}" width="{width}" height="{height}" fill="none" stroke="grey"/>"#),
-    );
+    frame(out, LEGEND, legend_height(notes));
     keys(out);
     for (place, note) in notes.iter().enumerate() {
         text(out, (LEFT + 10.0, LEGEND + LINE * (place + 3) as f64 + 4.0), "start", note);
@@ -117,11 +97,7 @@ fn title(out: &mut String, case: Case) {
 pub fn drawn(case: Case) -> Result<String, String> {
     let picture = Picture::of(case)?;
     let notes = notes(&picture, case.gradient);
-    let height = LEGEND + legend_height(&notes) + LINE;
     let mut out = String::new();
-    add(&mut out, &format!(r#"<svg xmlns="http://www.w3.org/2000/svg" viewBox="0 0 {WIDTH} {height}" "#));
-    add(&mut out, &format!(r#"width="{WIDTH}" height="{height}" font-family="sans-serif" font-size="13">"#));
-    add(&mut out, r#"<rect width="100%" height="100%" fill="white"/>"#);
     title(&mut out, case);
     distance_axis(&mut out, &picture);
     speed_axis(&mut out, &picture);
@@ -129,14 +105,15 @@ pub fn drawn(case: Case) -> Result<String, String> {
         curve_line(&mut out, curve, &picture.points(row));
     }
     legend(&mut out, &notes);
-    add(&mut out, "</svg>");
-    Ok(out)
+    Ok(document(LEGEND + legend_height(&notes) + LINE, &out))
 }
 
 #[cfg(test)]
 pub mod tests {
     use super::*;
     use crate::notes::tests::noted;
+    use crate::svg::tests::number;
+    use crate::svg::WIDTH;
     use crate::tests::case;
 
     const CASES: [&str; 7] = [
@@ -161,12 +138,6 @@ pub mod tests {
         };
         let curves = svg.split("<polyline points=\"").skip(1).map(|rest| rest.split('"').next().expect("an end"));
         curves.map(|points| points.split(' ').map(point).collect()).collect()
-    }
-
-    /// What follows a piece of text, up to the quotation mark.
-    fn number(svg: &str, before: &str) -> f64 {
-        let (_, rest) = svg.split_once(before).expect("the text before");
-        rest.split('"').next().expect("an end").parse().expect("a number")
     }
 
     /// A point for each speed, all in the field, from its foot to its top; EBI the nearest to the target, and P at the

@@ -5,6 +5,8 @@ mod command;
 mod drawing;
 mod notes;
 mod picture;
+#[path = "../svg/mod.rs"]
+mod svg;
 
 use approach::{Brake, Coefficients, Kmh, Metre, PerMille, Train};
 use command::{natural, whole, Trouble};

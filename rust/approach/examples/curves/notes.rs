@@ -1,5 +1,6 @@
 //! What a reader of the drawing would stumble over: curves that run into one, and bends.
-use crate::picture::{metres, Picture, Point};
+use crate::picture::{metres, Picture};
+use crate::svg::Point;
 use approach::{Curve, Kmh, Millimetre, PerMille, CURVES};
 use std::cmp::Ordering;
 

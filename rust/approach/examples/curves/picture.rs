@@ -1,4 +1,5 @@
 //! What is drawn: the distances of a case, and where each lies in the field.
+use crate::svg::{Point, LEFT, RIGHT};
 use approach::{row, Kmh, Millimetre, PerMille, Train, CURVES, LONGEST_ROW};
 
 /// A train that brakes to a target speed on a gradient.
@@ -9,17 +10,10 @@ pub struct Case {
     pub target: Kmh,
 }
 
-/// The drawing's width and, in it, the corners of the field in which the curves lie. The legend is below the field, where no
-/// curve comes, and the drawing as high as its lines ask for.
-pub const WIDTH: f64 = 960.0;
-pub const LEFT: f64 = 80.0;
-pub const RIGHT: f64 = 930.0;
+/// Head and foot of the field in which the curves lie, and the legend's, below where any curve comes.
 pub const TOP: f64 = 70.0;
 pub const BOTTOM: f64 = 530.0;
 pub const LEGEND: f64 = 590.0;
-pub const LINE: f64 = 20.0;
-
-pub type Point = (f64, f64);
 
 /// Each curve's distances by speed, the target's first, as `CURVES` has them, and the ends of the axes.
 pub struct Picture {

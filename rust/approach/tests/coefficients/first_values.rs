@@ -50,7 +50,7 @@ fn zeros_are_refused() {
     for signal in [0, 1, 2] {
         assert_eq!(query(t, times(200, 400), &EXAMPLE, signal, Metre(0)), Err(Refusal::Coefficient));
         let answer = raw::query(t.into(), 200, 400, &EXAMPLE, signal, 0);
-        assert_eq!(answer, raw::Answer { refusal: 12, release: 0, permitted: 0, mark: 0, w: 0, sbi: 0, ebi: 0 });
+        assert_eq!(answer, raw::Answer { refusal: 12, ..Default::default() });
     }
 }
 

@@ -20,8 +20,10 @@ struct Asked {
     places: usize,
 }
 
-/// Each breaks one rule.
-const FAULTS: [(u32, fn(&mut Asked)); 12] = [
+/// Breaks one rule, and is refused by the number.
+type Fault<A> = (u32, fn(&mut A));
+
+const FAULTS: [Fault<Asked>; 12] = [
     (1, |a| a.train.braked_weight = 47),
     (2, |a| a.train.length = Metre(1001)),
     (3, |a| a.train.top_speed = Kmh(331)),
@@ -75,8 +77,7 @@ fn of_rows() {
     }
 }
 
-/// Each breaks one rule.
-const OF_RAMPS: [(u32, fn(&mut Run)); 10] = [
+const OF_RAMPS: [Fault<Run>; 10] = [
     (1, |r| r.weight = 47),
     (3, |r| r.v = 101),
     (5, |r| r.gradient = -36),

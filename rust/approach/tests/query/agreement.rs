@@ -1,14 +1,10 @@
 //! Document 02, Card 2: sheets that agree on the signal and on each point from the tail up to the overlap's end get the same
-//! answer; to agree from the head on is not enough.
+//! answer, but for Card 4's numbers of stretches; to agree from the head on is not enough.
 use super::asked::{accepted, answer, one_signal};
 use super::{line, signal_and_head, times};
 use approach::{Metre, Train};
 use inputs::{Line, Query, Random, EXAMPLE_TRAIN};
 use std::collections::BTreeMap;
-
-fn gradient_at(line: &Line, point: u32) -> i16 {
-    line.gradients[line.starts.partition_point(|&start| start <= point) - 1]
-}
 
 /// A line that agrees on the signal and on each point from one on up to the overlap's end, and on little else; and the
 /// signal's number there.
@@ -22,7 +18,7 @@ fn agreeing(random: &mut Random, line: &Line, signal: u32, from: u32) -> (Line, 
     starts.sort();
     starts.dedup();
     let mut gradient = |start| match (from..past).contains(&start) {
-        true => gradient_at(line, start),
+        true => line.gradients[line.stretch_at(start)],
         false => random.below(71) as i16 - 35,
     };
     let gradients = starts.iter().map(|&start| gradient(start)).collect();

@@ -1,39 +1,21 @@
 //! A query asked of the library and of the reference, on sheets of few stretches and signals.
-use approach::{raw, Approach, Ceilings, Kmh, Mark, Refusal};
-use inputs::{lent, on_paper, Line, Query};
-use reference::approach::{approach, keeps_demand};
+use approach::{Approach, Refusal};
+use inputs::{answer_on_paper, lent, on_paper, without_stretches, Line, Query};
+use reference::approach::keeps_demand;
 
-/// The answer as the reference has it.
-fn on_reference(answer: Approach) -> reference::approach::Answer {
-    let Approach { release: Kmh(release), permitted: Kmh(permitted), mark, ceilings: Ceilings { w, sbi, ebi } } =
-        answer;
-    let mark = match mark {
-        Mark::Curve => reference::approach::Mark::Curve,
-        Mark::Release => reference::approach::Mark::Release,
-    };
-    reference::approach::Answer { release, permitted, mark, ceilings: [w.0, sbi.0, ebi.0] }
-}
-
-/// The library's answer from a lent sheet, which it leaves as it is.
+/// The library's answer from a lent sheet, which it leaves as it is; without the numbers of stretches, in which sheets may differ that
+/// agree.
 pub fn answer(q: &Query) -> Result<Approach, u32> {
-    lent(&q.sheet, |sheet| q.on(sheet)).map_err(Refusal::number)
+    lent(&q.sheet, |sheet| q.on(sheet)).map(without_stretches).map_err(Refusal::number)
 }
 
-/// Beside a refusal stand zeros.
+/// The reference's answer, which keeps the demand.
 pub fn check(q: &Query) -> Result<Approach, u32> {
     let Query { train, tm, tr, sheet, signal, head } = q;
-    let answer = answer(q);
-    let expected = approach(on_paper(*train), *tm, *tr, sheet, *signal, *head);
-    assert_eq!(answer.map(on_reference), expected, "{q:?}");
-    match answer {
-        Ok(answer) => {
-            let kept = keeps_demand(on_paper(*train), *tm, *tr, sheet, *signal, *head, on_reference(answer));
-            assert_eq!(kept, Ok(()), "the demand: {answer:?} to {q:?}");
-        }
-        Err(refusal) => {
-            let zeros = raw::Answer { refusal, release: 0, permitted: 0, mark: 0, w: 0, sbi: 0, ebi: 0 };
-            assert_eq!(raw::query((*train).into(), *tm, *tr, sheet, *signal, *head), zeros, "{q:?}");
-        }
+    let answer = q.check();
+    if let Ok(answer) = answer {
+        let kept = keeps_demand(on_paper(*train), *tm, *tr, sheet, *signal, *head, answer_on_paper(answer));
+        assert_eq!(kept, Ok(()), "the demand: {answer:?} to {q:?}");
     }
     answer
 }

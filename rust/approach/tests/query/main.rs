@@ -2,7 +2,7 @@
 //! accepted ones.
 use approach::{Approach, Brake, Ceilings, Kmh, Mark, Metre, PerMille, Refusal, Train};
 use asked::{accepted, check, one_signal, refusal, sheet};
-use inputs::{Line, Query, Random, EXAMPLE, EXAMPLE_TRAIN};
+use inputs::{without_stretches, Line, Query, Random, EXAMPLE, EXAMPLE_TRAIN};
 use reference::approach::printed;
 
 mod agreement;
@@ -88,18 +88,18 @@ fn answers_at_random() {
 
 #[test]
 fn the_printed_example() {
-    let lines: String =
-        (0..2)
-            .map(|signal| {
-                let Approach {
-                    release: Kmh(release),
-                    permitted: Kmh(permitted),
-                    mark,
-                    ceilings: Ceilings { w, sbi, ebi },
-                } = accepted(&Query { signal, ..Query::printed(EXAMPLE.to_vec()) });
-                format!("{signal} {release} {permitted} {mark} {} {} {}\n", w.0, sbi.0, ebi.0)
-            })
-            .collect();
+    let lines: String = (0..2)
+        .map(|signal| {
+            let Approach {
+                release: Kmh(release),
+                permitted: Kmh(permitted),
+                mark,
+                ceilings: Ceilings { w, sbi, ebi },
+                ..
+            } = accepted(&Query { signal, ..Query::printed(EXAMPLE.to_vec()) });
+            format!("{signal} {release} {permitted} {mark} {} {} {}\n", w.0, sbi.0, ebi.0)
+        })
+        .collect();
     assert_eq!(lines, "0 37 37 release 4920 5040 5340\n1 0 90 curve 11280 11400 11700\n");
     assert_eq!(lines, printed(&EXAMPLE));
 }
@@ -138,14 +138,14 @@ fn stretches_about_the_spans() {
         }
     }
     answers.sort_by_key(|a| (a.release, a.permitted));
-    answers.dedup();
+    answers.dedup_by_key(|a| without_stretches(*a));
     assert!(answers.len() > 10, "{answers:?}");
 }
 
 /// The same, said without the reference: which stretches count and which do not.
 #[test]
 fn which_stretches_count() {
-    let ahead = |stretches: &[_]| accepted(&Query { head: 400, ..one_signal(stretches, 0) });
+    let ahead = |stretches: &[_]| without_stretches(accepted(&Query { head: 400, ..one_signal(stretches, 0) }));
     let (level, falling) = (ahead(&[(0, 0)]), ahead(&[(0, -10)]));
     assert!(falling.permitted < level.permitted);
     assert_eq!(ahead(&[(0, 0), (999, -10)]), falling, "before the signal");

@@ -2,7 +2,7 @@
 //! the signal.
 use super::asked::{accepted, answer, check, sheet};
 use approach::{Approach, Brake, Kmh, Metre, Train};
-use inputs::{Query, Random, EXAMPLE_TRAIN};
+use inputs::{without_stretches, Query, Random, EXAMPLE_TRAIN};
 use std::collections::BTreeMap;
 
 const LENGTHS: [u32; 4] = [0, 1, 600, 1000];
@@ -63,7 +63,7 @@ fn tails_about_a_start() {
             for stands in [Stands::Ahead, Stands::AtTheSignal, Stands::AtTheBeginning] {
                 let (start, beside) = (1 + random.below_any(&[10, 2000]), round % 3);
                 let [q, moved] = about(&mut random, stands, length, start, start + beside - 1);
-                let differs = check(&q) != answer(&moved);
+                let differs = check(&q).map(without_stretches) != answer(&moved);
                 *told.entry((stands, length, beside)).or_insert(0) += differs as u32;
             }
         }

@@ -1,7 +1,7 @@
 //! The last least is the query's gradient ahead, by the answers that it makes: the query has the same answer where the whole line
-//! has that gradient, and mostly another where it has one per mille more or less.
+//! has that gradient, and mostly another where it has one per mille more or less. Which stretch has it the whole line does not tell.
 use approach::{Approach, Kmh, Metre, Refusal, Train};
-use inputs::{Line, Query, Random, Walked};
+use inputs::{without_stretches, Line, Query, Random, Walked};
 
 /// The walk's query, whose signal has no overlap: nothing past it counts.
 fn query(random: &mut Random, w: &Walked) -> Query {
@@ -13,7 +13,7 @@ fn query(random: &mut Random, w: &Walked) -> Query {
 /// The same query on the line with all of one gradient.
 fn flattened(q: &Query, line: &Line, gradient: i32) -> Result<Approach, Refusal> {
     let flat = Line { starts: vec![0], gradients: vec![gradient as i16], ..line.clone() };
-    q.on(&flat.written())
+    q.on(&flat.written()).map(without_stretches)
 }
 
 /// How often the answer is another, of how many; only of ways long enough for speeds that a per mille changes.
@@ -40,9 +40,9 @@ fn the_last_least() {
     while accepted < 4_000 {
         let line = random.short_line();
         let w = random.walk_on(line);
-        let (q, steps) = (query(&mut random, &w), super::check(&w));
+        let (q, steps) = (query(&mut random, &w), w.check());
         let ahead = steps[steps.len() - 1].least.0;
-        let answer = q.answer();
+        let answer = q.answer().map(without_stretches);
         assert_eq!(answer, flattened(&q, &w.line, ahead), "{ahead} per mille: {q:?}");
         accepted += answer.is_ok() as u32;
         weak += (answer == Err(Refusal::WeakBrake)) as u32;

@@ -9,13 +9,13 @@ const STEPS: [u32; 4] = [0, 1, 512, u32::MAX];
 fn refusal(w: &Walked) -> u32 {
     let refused = reference::walk::walk(&w.sheet, w.signal, w.head, w.length).err();
     let Some(refusal) = refused else {
-        super::check(w);
+        w.check();
         return 0;
     };
-    let zeros = raw::Back { refusal, end: 0, stretch: 0, gradient: 0, least: 0 };
+    let zeros = raw::Back { refusal, end: 0, stretch: 0, gradient: 0, least: 0, least_stretch: 0 };
     lent(&w.sheet, |sheet| {
         for step in STEPS {
-            assert_eq!(raw::sheet_back(sheet, w.signal, w.head, w.length, step), zeros, "step {step} of {w:?}");
+            assert_eq!(w.crossed_on(sheet, step), zeros, "step {step} of {w:?}");
             assert_eq!(w.step_on(sheet, step).map_err(Refusal::number), Err(refusal), "step {step} of {w:?}");
         }
         let walk = walk(sheet, w.signal, Metre(w.head), Metre(w.length));

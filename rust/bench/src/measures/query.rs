@@ -17,7 +17,7 @@ const FREIGHT: Train = Train {
 };
 
 fn numbers(a: Answer) -> u64 {
-    mixed([a.refusal, a.release, a.permitted, a.mark, a.w, a.sbi, a.ebi])
+    mixed([a.refusal, a.release, a.permitted, a.mark, a.w, a.sbi, a.ebi, a.overlap_stretch, a.ahead_stretch])
 }
 
 fn ways() -> [Way<Query>; 3] {

@@ -9,8 +9,9 @@ type Call = fn(&[u8], u32, u32, u32, u32) -> Back;
 
 fn answered(call: Call, step: u32) -> Way<Query> {
     way(move |q: &Query| {
-        let Back { refusal, end, stretch, gradient, least } = call(&q.sheet, q.signal, q.head, q.train.length.0, step);
-        mixed([refusal, end, stretch, gradient as u32, least as u32])
+        let back = call(&q.sheet, q.signal, q.head, q.train.length.0, step);
+        let Back { refusal, end, stretch, gradient, least, least_stretch } = back;
+        mixed([refusal, end, stretch, gradient as u32, least as u32, least_stretch])
     })
 }
 

@@ -14,7 +14,7 @@ fn folded(w: Wide) -> u64 {
 
 pub fn measure() {
     let mut random = Random(7);
-    let words: Vec<u64> = (0..INPUTS).map(|_| random.next()).collect();
+    let words: Vec<u64> = (0..INPUTS).map(|_| random.word()).collect();
     let pairs: Vec<(Wide, u64)> = (0..INPUTS).map(|_| factors(&mut random)).collect();
     let sums: Vec<(Wide, Wide)> = (0..INPUTS).map(|_| summands(&mut random)).collect();
     let calls = [way(|x| folded(unsafe { wide_calls::wide_from_word(*x) })), way(|x| folded(peer::from_word(*x)))];

@@ -3,7 +3,7 @@
 use super::{ramp, step, walk};
 use crate::plain;
 use crate::plain::query::{answer_by, Plan, FASTEST_CREEP};
-use crate::plain::sheet::Entry;
+use crate::plain::sheet::{Entry, Grade};
 use crate::plain::step::{fits, Course};
 use approach::raw::{Answer, Train};
 
@@ -28,8 +28,8 @@ pub(crate) struct Own;
 impl Plan for Own {
     /// By the walk back from the span's last point.
     #[inline(always)]
-    fn least(stretches: &[Entry], from: u32, to: u32) -> i32 {
-        walk::least(stretches, from, to - 1)
+    fn grade(stretches: &[Entry], from: u32, to: u32) -> Grade {
+        walk::grade(stretches, from, to - 1)
     }
 
     /// A stop is surely within the overlap where a faster one is.

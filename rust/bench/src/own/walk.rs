@@ -1,5 +1,5 @@
 //! The walk back along the stretches: the last point's stretch by halving, then one stretch after the other.
-use crate::plain::sheet::{gradient, split, Entry};
+use crate::plain::sheet::{gradient, split, Entry, Grade};
 use crate::plain::walk::{back_by, Step};
 use approach::raw::Back;
 
@@ -19,6 +19,7 @@ struct Walk {
     stretch: usize,
     gradient: i32,
     least: i32,
+    least_stretch: usize,
 }
 
 impl Walk {
@@ -27,7 +28,7 @@ impl Walk {
     fn begin(stretches: &[Entry], point: u32) -> Walk {
         let stretch = stretch_at(stretches, point);
         let gradient = gradient(&stretches[stretch]);
-        Walk { stretch, gradient, least: gradient }
+        Walk { stretch, gradient, least: gradient, least_stretch: stretch }
     }
 
     #[inline(always)]
@@ -35,23 +36,30 @@ impl Walk {
         point < split(&stretches[self.stretch]).0
     }
 
-    /// At the stretch before.
+    /// At the stretch before, which governs also where the gradients are equal: its number is the lower.
     #[inline(always)]
     fn onward(self, stretches: &[Entry]) -> Walk {
         let stretch = self.stretch - 1;
         let gradient = gradient(&stretches[stretch]);
-        Walk { stretch, gradient, least: gradient.min(self.least) }
+        let (least, least_stretch) =
+            if gradient <= self.least { (gradient, stretch) } else { (self.least, self.least_stretch) };
+        Walk { stretch, gradient, least, least_stretch }
+    }
+
+    #[inline(always)]
+    fn grade(&self) -> Grade {
+        Grade { gradient: self.least, stretch: self.least_stretch as u32 }
     }
 }
 
-/// The least gradient over the points from `first` to `last`, both included.
+/// What governs over the points from `first` to `last`, both included.
 #[inline(always)]
-pub(crate) fn least(stretches: &[Entry], first: u32, last: u32) -> i32 {
+pub(crate) fn grade(stretches: &[Entry], first: u32, last: u32) -> Grade {
     let mut walk = Walk::begin(stretches, last);
     while walk.ahead_of(stretches, first) {
         walk = walk.onward(stretches);
     }
-    walk.least
+    walk.grade()
 }
 
 /// None past the stretch that holds the tail.
@@ -64,7 +72,7 @@ fn step_back(stretches: &[Entry], tail: u32, place: u32, step: u32) -> Option<St
         }
         walk = walk.onward(stretches);
     }
-    Some((walk.stretch as u32, walk.gradient, walk.least))
+    Some((walk.stretch as u32, walk.gradient, walk.grade()))
 }
 
 #[inline(never)]

@@ -1,6 +1,7 @@
 //! The check of a line sheet as one would write it in Rust: one pass over the bytes, and no copy of them.
 //! What is timed stands behind a call that is not inlined, as the proved one does.
 use approach::raw::Signal;
+use std::ops::Range;
 
 const HEADER: usize = 20;
 
@@ -82,13 +83,29 @@ pub(crate) fn gradient(stretch: &Entry) -> i32 {
     i16::from_le_bytes(split(stretch).1).into()
 }
 
-/// The least gradient over the points `from` up to but not including `to`, of which there is one at least.
+/// The least gradient of some stretches in per mille, and the lowest number among those that have it.
+#[derive(Clone, Copy)]
+pub(crate) struct Grade {
+    pub gradient: i32,
+    pub stretch: u32,
+}
+
+/// Of the stretches of these numbers, of which there is one at least.
 #[inline(always)]
-pub(crate) fn least(stretches: &[Entry], from: u32, to: u32) -> i32 {
+pub(crate) fn governing(stretches: &[Entry], numbers: Range<usize>) -> Grade {
+    let held = &stretches[numbers.clone()];
+    // The least first, and then where it is: two quick loops rather than a slow one.
+    let least = held.iter().map(gradient).fold(i32::MAX, i32::min);
+    let first = held.iter().take_while(|stretch| gradient(stretch) != least).count();
+    Grade { gradient: least, stretch: (numbers.start + first) as u32 }
+}
+
+/// Over the points `from` up to but not including `to`, of which there is one at least.
+#[inline(always)]
+pub(crate) fn grade(stretches: &[Entry], from: u32, to: u32) -> Grade {
     let begun = |point: u32| stretches.partition_point(|stretch| split(stretch).0 < point);
     // The first stretch starts at 0, so one has begun.
-    let held = &stretches[begun(from + 1) - 1..begun(to)];
-    held.iter().map(|stretch| i16::from_le_bytes(split(stretch).1)).fold(i16::MAX, i16::min).into()
+    governing(stretches, begun(from + 1) - 1..begun(to))
 }
 
 #[inline(never)]

@@ -1,13 +1,13 @@
 //! A step back from a signal as one would write it in Rust: both ends of the walk by a scan along the stretches, and the least of
 //! those between. It stands behind a call that is not inlined, as the proved one does.
-use super::sheet::{gradient, signal_ahead, split, Entry};
+use super::sheet::{governing, gradient, signal_ahead, split, Entry, Grade};
 use approach::raw::Back;
 
 /// In metres.
 const LONGEST_TRAIN: u32 = 1000;
 
-/// Number, gradient and least gradient of a step.
-pub(crate) type Step = (u32, i32, i32);
+/// Number and gradient of a step, and what governs up to it.
+pub(crate) type Step = (u32, i32, Grade);
 
 /// The stretch that holds a point.
 #[inline(always)]
@@ -21,8 +21,7 @@ fn stretch_at(stretches: &[Entry], point: u32) -> usize {
 fn step_back(stretches: &[Entry], tail: u32, place: u32, step: u32) -> Option<Step> {
     let (first, last) = (stretch_at(stretches, tail), stretch_at(stretches, place));
     let number = last.checked_sub(step as usize).filter(|&number| number >= first)?;
-    let least = stretches[number..=last].iter().map(gradient).min()?;
-    Some((number as u32, gradient(&stretches[number]), least))
+    Some((number as u32, gradient(&stretches[number]), governing(stretches, number..last + 1)))
 }
 
 /// The call by a way to find the step between the tail and the signal.
@@ -35,7 +34,7 @@ pub(crate) fn back_by(
     length: u32,
     step: u32,
 ) -> Back {
-    let none = Back { refusal: 0, end: 0, stretch: 0, gradient: 0, least: 0 };
+    let none = Back::default();
     if length > LONGEST_TRAIN {
         return Back { refusal: 2, ..none };
     }
@@ -44,7 +43,9 @@ pub(crate) fn back_by(
         Err(refusal) => return Back { refusal, ..none },
     };
     match find(stretches, head.saturating_sub(length), place, step) {
-        Some((stretch, gradient, least)) => Back { stretch, gradient, least, ..none },
+        Some((stretch, gradient, Grade { gradient: least, stretch: least_stretch })) => {
+            Back { stretch, gradient, least, least_stretch, ..none }
+        }
         None => Back { end: 1, ..none },
     }
 }

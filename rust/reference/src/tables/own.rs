@@ -1,6 +1,6 @@
 //! Card 5's tables: one train with coefficients of its own, at the ends of their spans and one past each.
 
-use super::{lent_row, queried, Lines, TIMES};
+use super::{lent_row, queried, Lines, QUERY_ANSWER, TIMES};
 use crate::coefficients::{Coefficients, Inertia, FIRST_VALUES};
 use crate::ramp::{ramp, Stop};
 use crate::sheet::write;
@@ -137,8 +137,7 @@ fn query_lines(lines: &mut Lines, train: Train, gradient: i16, overlap: u16) {
 }
 
 pub fn query_table(lines: &mut Lines) {
-    lines.word("# own_query dt h kr cr nc vc ki1 ki2 ki3 i1 i2 i overlap head");
-    lines.word(" = refusal release permitted mark W SBI EBI\n");
+    lines.word("# own_query dt h kr cr nc vc ki1 ki2 ki3 i1 i2 i overlap head").word(QUERY_ANSWER);
     for train in trains(TRAIN.top_speed) {
         for gradient in QUERY_GRADIENTS {
             QUERY_OVERLAPS.iter().for_each(|&overlap| query_lines(lines, train, gradient, overlap));

@@ -56,11 +56,16 @@ const WALKS: [(u32, u32, u32, u32); 42] = [
 
 const STEPS: [u32; 10] = [0, 1, 2, 3, 4, 5, 6, 7, 65_536, 4_294_967_295];
 
-/// Whether it is past the end, and the step's stretch, gradient and least.
-fn stepped(sheet: &[u8], length: u32, signal: u32, head: u32, step: u32) -> Result<[i64; 4], u32> {
+/// What the lines of every step have behind their inputs.
+pub(super) const STEP_ANSWER: &str = " = refusal end stretch i least least_stretch\n";
+
+/// Whether it is past the end, and the step's stretch, gradient, least and the stretch that has it.
+pub(super) fn stepped(sheet: &[u8], length: u32, signal: u32, head: u32, step: u32) -> Result<[i64; 5], u32> {
     Ok(match back(sheet, signal, head, length, step)? {
-        Some(Step { stretch, gradient, least }) => [0, stretch.into(), gradient.into(), least.into()],
-        None => [1, 0, 0, 0],
+        Some(Step { stretch, gradient, least, least_stretch }) => {
+            [0, stretch.into(), gradient.into(), least.into(), least_stretch.into()]
+        }
+        None => [1, 0, 0, 0, 0],
     })
 }
 
@@ -74,7 +79,7 @@ fn back_lines(lines: &mut Lines, (place, length, signal, head): (u32, u32, u32, 
 }
 
 pub fn back_table(lines: &mut Lines) {
-    lines.word("# back place L i signal head step = refusal end stretch i least\n");
+    lines.word("# back place L i signal head step").word(STEP_ANSWER);
     for walk in WALKS {
         GRADIENTS.iter().for_each(|&gradient| back_lines(lines, walk, gradient));
     }

@@ -1,6 +1,5 @@
 -- `ahead_of`: the stretch's own start tells.
 use borrow.Author.Needs.{needs}
-use denote.Ref.{now}
 use mathlib.Core.Path.{ap}
 use lib.Dec.{ltb}
 use Rattle.train.specs.declared.Metre.{Metre}

@@ -1,12 +1,10 @@
 -- `begin`: the stretch at the point, alone.
 use borrow.Author.Needs.{needs}
-use mathlib.Core.Path.{_≡_, ap, _∙_}
+use mathlib.Core.Path.{ap}
 use mir.Syntax.{w32}
 use mir.ValLaws.{toZ-ofZ}
 use denote.Ref.{now}
-use Prim.Native.Nat.{ℕ}
 use Rattle.sheet.specs.Sheet.{lineOf}
-use Rattle.sheet_span.specs.Least.{stretchAt}
 use Rattle.sheet_walk.specs.Walk.{begun}
 use Rattle.sheet_walk.proofs.Walk.begin.Statement.{statement}
 use Rattle.sheet_walk.proofs.Walk.begin.Tie as tie
