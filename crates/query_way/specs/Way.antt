@@ -64,7 +64,8 @@ Behind place length tail = (tail + length ≡ place) ⊎ ((place < length) × (t
 
 -- And what the way is and which stretches govern it, whatever stands for them: the signal is the distance ahead of the head, the overlap
 -- is the line's, the gradient ahead is the least over the points from the tail to the signal, both included, and that of an overlap
--- which has a length the least over the points from where the tail is with the head at the signal, up to but not including its end.
+-- which has a length the least over the points from where the tail is with the head at the signal, up to but not including its end; each
+-- has the number of its stretch beside it, and an overlap of no length 65,535 (Card 4).
 pub record Leads (l : Line) (k head length : ℕ) (w : Way) (n : Governing) : Type 0 where
   pub signal : head + w .distance .0 ≡ l .place k
   pub overlap : w .overlap .0 ≡ l .overlap k
