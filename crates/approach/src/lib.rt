@@ -1,5 +1,7 @@
 // What designers link: each operation of documents 01 and 02, as a C function. Each repeats the contract of the call below it.
 // Takes: every operation, `approach_train`. Gives: libapproach.a.
+#![tactic(auto)]
+
 ghost use Rattle.std.specs.Prelude.{◌≡◌};
 ghost use Rattle.train.specs.Units.{kmh};
 ghost use Rattle.train.specs.Coefficients.{first};

@@ -1,5 +1,7 @@
 // Document 01's program: reads a line sheet on standard input, and prints how one train may approach each of its signals.
 // Takes: `sheet`, `sheet_fields`, `query`. Gives: a program.
+#![tactic(auto)]
+
 ghost use Rattle.std.specs.Prelude.{◌≡◌, true};
 ghost use Rattle.train.specs.Coefficients.{first};
 ghost use Rattle.sheet.specs.Sheet.{accepted};

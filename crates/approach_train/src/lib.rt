@@ -1,6 +1,8 @@
 // A train as C has it, and the train and the coefficients that it stands for: an enum cannot cross the border, and a number of
 // either sign is two inside.
 // Takes: `train`, `train_slope`. Gives: `Entered`, `EnteredInertia`, what they stand for, and the first values, to `approach`.
+#![tactic(auto)]
+
 ghost use Rattle.std.specs.Prelude.{◌≡◌};
 ghost use Rattle.train.specs.Coefficients.{first};
 ghost use Rattle.approach_train.specs.Entered.{train_of, Meant};
@@ -10,7 +12,7 @@ use train::{BrakeType, Coefficients, Inertia, Kmh, Metre, Signed, Train};
 
 // The coefficients of the slope: Ki in hundredths, i1 and i2 in per mille, positive uphill.
 #[repr(C)]
-#[derive(Drop)]
+#[derive(Clone, Copy)]
 pub struct EnteredInertia {
     pub ki1: u32,
     pub ki2: u32,
@@ -21,7 +23,7 @@ pub struct EnteredInertia {
 
 // Document 002's coefficients: hundredths, but h tenths of a second, nc thousandths per km/h, vc km/h.
 #[repr(C)]
-#[derive(Drop)]
+#[derive(Clone, Copy)]
 pub struct EnteredCoefficients {
     pub dt: u32,
     pub h: u32,
@@ -35,7 +37,7 @@ pub struct EnteredCoefficients {
 // Whether freight and whether the electropneumatic brake works, in a byte each: 0 is no, any other yes. The braked weight
 // percentage, the length in metres, the top speed in km/h, the coefficients.
 #[repr(C)]
-#[derive(Drop)]
+#[derive(Clone, Copy)]
 pub struct Entered {
     pub freight: u8,
     pub electropneumatic: u8,

@@ -1,6 +1,8 @@
 // The three speed ceilings of a permitted speed. Document 01, "Ceilings"; document 002, section 9.
 // Takes: the units of `train`. Gives: the operation `ceilings`, also to `query`; its answer and what is promised of it to
 // `ceilings_stored`.
+#![tactic(auto)]
+
 ghost use Rattle.std.specs.Prelude.{◌≡◌, ◌≤◌};
 ghost use Rattle.ceilings.specs.Ceilings.{Narrow, grown_to, ceiling_of};
 ghost use Rattle.ceilings.specs.Answer.{CeilingAnswers};
@@ -9,12 +11,12 @@ use train::Kmh;
 
 // A speed in 120ths of a km/h.
 #[repr(C)]
-#[derive(Drop)]
+#[derive(Clone, Copy)]
 pub struct Ceiling(pub u32);
 
 // The ceilings for W, SBI and EBI, or a refusal and zeros.
 #[repr(C)]
-#[derive(Drop)]
+#[derive(Clone, Copy)]
 pub struct Limits {
     pub refusal: u32,
     pub w: Ceiling,
@@ -24,7 +26,7 @@ pub struct Limits {
 
 // How far a ceiling lies above the permitted speed, in 120ths of a km/h: `least` up to 110 km/h, then `growth` more for each
 // km/h up to `end`.
-#[derive(Drop)]
+#[derive(Clone, Copy)]
 pub struct Band {
     pub least: u32,
     pub growth: u32,

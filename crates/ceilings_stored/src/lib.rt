@@ -1,5 +1,7 @@
 // The three speed ceilings of a permitted speed, looked up in a table. Document 02, Card 6.
 // Takes: the answer of `ceilings` and what is promised of it. Gives: the operation `stored`.
+#![tactic(auto)]
+
 ghost use Rattle.std.specs.Prelude.{◌≡◌, ◌+◌, ◌*◌, ◌<◌, length};
 ghost use Rattle.train.specs.Units.{kmh};
 ghost use Rattle.ceilings.specs.Ceilings.{given};

@@ -2,6 +2,8 @@
 // document 02, Cards 2, 4 and 5.
 // Takes: `query_way`, `query_release`, `query_permitted`, `ramp` for refusal 6, `ceilings`. Gives: the operation `query`, and the
 // third demand.
+#![tactic(auto)]
+
 ghost use Rattle.std.specs.Prelude.{◌≡◌};
 ghost use Rattle.train.specs.Coefficients.{Within};
 ghost use Rattle.query.specs.Answer.{refused, answered, QueryAnswers};
@@ -18,7 +20,7 @@ use train::{Coefficients, Gradient, Kmh, Metre, Train};
 // speed, and the numbers of the stretches that govern the overlap (65,535 where it has no length) and the way ahead; or a refusal and
 // zeros.
 #[repr(C)]
-#[derive(Drop)]
+#[derive(Clone, Copy)]
 pub struct Answer {
     pub refusal: u32,
     pub release: Kmh,

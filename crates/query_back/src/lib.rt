@@ -1,5 +1,7 @@
 // A step of the walk from a signal back towards a train's tail. Document 02, Cards 3 and 4.
 // Takes: `query_way`, `sheet_walk`. Gives: the operation `step_back`.
+#![tactic(auto)]
+
 ghost use Rattle.std.specs.Prelude.{◌≡◌};
 ghost use Rattle.query_back.specs.Answer.{refused, BackAnswers};
 

@@ -2,6 +2,8 @@
 // Document 01, "Approach"; document 02, Card 5.
 // Takes: `step_course`, `step_braking`, `step_curve`, `step_quick`, `query_climb`. Gives: `speed`, refusal 10 of the step model
 // among its answers, to `query`.
+#![tactic(auto)]
+
 ghost use Rattle.std.specs.Prelude.{◌≡◌, true, ◌+◌, ◌-◌, ◌≤◌, ◌<◌};
 ghost use Rattle.train.specs.Coefficients.{Within};
 ghost use Rattle.train.specs.Gradient.{Moderate};
@@ -17,7 +19,7 @@ use step_curve::Curve;
 use train::{Coefficients, Gradient, Kmh, Metre, Train};
 
 // That the brake is too weak on the way; that the release speed itself does not fit; or the last speed that does.
-#[derive(Drop)]
+#[derive(Clone, Copy)]
 pub enum Permitted {
     Weak,
     Release,

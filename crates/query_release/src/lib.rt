@@ -1,6 +1,8 @@
 // The release speed: the last before the first at which the train, braked at the closed signal, gets beyond the overlap.
 // Document 01, "Approach".
 // Takes: `ramp`, `ramp_motion`, `query_climb`. Gives: `speed`, refusal 10 of the ramp among its answers, to `query`.
+#![tactic(auto)]
+
 ghost use Rattle.std.specs.Prelude.{◌≡◌, min, ◌≤◌};
 ghost use Rattle.train.specs.Refusal.{first_of};
 ghost use Rattle.ramp_plan.specs.Fair.{Small, Enough};
@@ -15,7 +17,7 @@ use ramp_motion::{Overrun, Plan};
 use train::{Inertia, Kmh, Metre};
 
 // The release speed, or that the brake is too weak along the overlap.
-#[derive(Drop)]
+#[derive(Clone, Copy)]
 pub enum Release {
     Weak,
     Speed(Kmh),

@@ -1,6 +1,8 @@
 // What a sheet says of the way to a signal and past it. Document 01, "Approach"; document 02, Cards 2, 3 and 4.
 // Takes: `sheet_lookup`, `sheet_walk`. Gives: `find`, refusals 7, 8, 9 or the way and the stretches that govern it, to `query`; the
 // signal and the tail alone (`signal_ahead`, `tail`), to `query_back`.
+#![tactic(auto)]
+
 ghost use Rattle.std.specs.Prelude.{◌≡◌, true, ◌+◌, ◌≤◌, ◌<◌};
 ghost use Rattle.sheet.specs.Sheet.{line_of, accepted};
 ghost use Rattle.query_way.specs.Way.{tail_of};
@@ -12,7 +14,7 @@ use train::{Gradient, Metre};
 
 // How far the signal is from the head, and the least gradient from the tail to the signal; the overlap, and the least gradient under
 // the train as it passes the signal.
-#[derive(Drop)]
+#[derive(Clone, Copy)]
 pub struct Way {
     pub distance: Metre,
     pub ahead: Gradient,
@@ -22,14 +24,14 @@ pub struct Way {
 
 // The numbers of the stretches that govern the two gradients; the overlap's is 65,535 where the overlap has no length. They stand beside
 // the way: sheets that agree on a way may number its stretches differently.
-#[derive(Drop)]
+#[derive(Clone, Copy)]
 pub struct Governing {
     pub overlap: u32,
     pub ahead: u32,
 }
 
 // A refusal, or the way and what governs it.
-#[derive(Drop)]
+#[derive(Clone, Copy)]
 pub enum Found {
     Refused(u32),
     Ready(Way, Governing),

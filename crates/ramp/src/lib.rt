@@ -1,6 +1,8 @@
 // The ramp: how far past a closed signal a train gets that is braked there, and when. Document 01, "Ramp"; document 02, Card 5.
 // Takes: `train_slope`, `ramp_plan`, `ramp_stop`. Gives: the operation `ramp`; to `query_release` the motion by itself (`start`,
 // `stop_from`), to `query` refusal 6 (`of_times`).
+#![tactic(auto)]
+
 ghost use Rattle.std.specs.Prelude.{◌≡◌, [], ◌∷◌, ◌≤◌};
 ghost use Rattle.train.specs.Gradient.{gradient_of};
 ghost use Rattle.train.specs.Refusal.{first_of};
@@ -14,7 +16,7 @@ use train::{Inertia, Kmh, Millimetre};
 
 // How far the train gets, and the moment in ms; or a refusal and zeros.
 #[repr(C)]
-#[derive(Drop)]
+#[derive(Clone, Copy)]
 pub struct Stop {
     pub refusal: u32,
     pub distance: Millimetre,
@@ -22,7 +24,7 @@ pub struct Stop {
 }
 
 // A refusal, or the motion in whole numbers.
-#[derive(Drop)]
+#[derive(Clone, Copy)]
 pub enum Begun {
     Refused(u32),
     Ready(Plan),

@@ -1,5 +1,7 @@
 // The plan of a motion, in whole numbers, and whether its brake is strong enough. Document 01, "Ramp".
 // Takes: `ramp_motion`, `train_slope`. Gives: `plan_of`, `is_strong`, to `ramp`.
+#![tactic(auto)]
+
 ghost use Rattle.std.specs.Prelude.{◌≡◌, ◌+◌, ◌*◌, leb};
 ghost use Rattle.train.specs.Coefficients.{InertiaWithin};
 ghost use Rattle.ramp_motion.specs.Plan.{IsPlan};

@@ -1,5 +1,7 @@
 // A sheet's numbers, records and header, laid into a lent buffer; what lies before and behind stays. Document 01, "Line sheet".
 // Takes: `sheet_line`, and lists that keep its rules (`sheet_lists`). Gives: `whole`, the bytes of a sheet, to `sheet_writer`.
+#![tactic(auto)]
+
 ghost use Rattle.std.specs.Prelude.{◌≡◌, true, ◌++◌, ◌+◌, ◌*◌, ◌≤◌, ◌<◌, length, get_or};
 ghost use Rattle.lists.specs.Put.{put};
 ghost use Rattle.sheet_line.specs.Bytes.{bytes2, bytes4};

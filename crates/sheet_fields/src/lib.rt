@@ -1,6 +1,8 @@
 // The fields of an accepted sheet, where they stand in the caller's bytes. Document 01, "Line sheet".
 // Takes: an accepted sheet (`sheet`), `sheet_line`. Gives: each field, to `sheet_mark`, `sheet_lookup`,
 // `sheet_span`, `sheet_walk` and `approach_sheet`.
+#![tactic(auto)]
+
 ghost use Rattle.std.specs.Prelude.{◌≡◌, true, ◌+◌, ◌*◌, ◌≤◌, ◌<◌, length};
 ghost use Rattle.train.specs.Units.{metres};
 ghost use Rattle.sheet_line.specs.Bytes.{u16_at, signed};

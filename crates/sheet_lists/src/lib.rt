@@ -1,6 +1,8 @@
 // A line's fields as the caller's lists, and whether they keep the sheet's rules. Document 01, "Line sheet".
 // Takes: the rules of `sheet_line`, `train_slope`. Gives: `keep`, to `sheet_writer`; the last two bytes of a record, to
 // `sheet_bytes`.
+#![tactic(auto)]
+
 ghost use Rattle.std.specs.Prelude.{◌≡◌, ◌≤◌, ◌<◌, length, get_or};
 ghost use Rattle.sheet_line.specs.Bytes.{signed, complement};
 ghost use Rattle.sheet_line.specs.Line.{farthest_end};

@@ -1,6 +1,8 @@
 // A stretch or a signal of a line sheet, by its number. Document 01, "Line sheet".
 // Takes: `sheet`, `sheet_fields`, and for its contract `sheet_mark`. Gives: the operations `read_stretch`, `read_signal`, also to
 // `query_way`.
+#![tactic(auto)]
+
 ghost use Rattle.sheet_lookup.specs.Answer.{StretchAnswers, SignalAnswers};
 
 use train::Metre;
@@ -9,7 +11,7 @@ pub mod opened;
 
 // A stretch: its start and its gradient in per mille, positive uphill; or a refusal and zeros.
 #[repr(C)]
-#[derive(Drop)]
+#[derive(Clone, Copy)]
 pub struct Stretch {
     pub refusal: u32,
     pub start: Metre,
@@ -18,7 +20,7 @@ pub struct Stretch {
 
 // A signal: its place and its overlap; or a refusal and zeros.
 #[repr(C)]
-#[derive(Drop)]
+#[derive(Clone, Copy)]
 pub struct Signal {
     pub refusal: u32,
     pub place: Metre,

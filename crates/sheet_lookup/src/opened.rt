@@ -8,14 +8,14 @@ use super::{Signal, Stretch};
 use train::Metre;
 
 // How many stretches and signals.
-#[derive(Drop)]
+#[derive(Clone, Copy)]
 pub struct Counts {
     pub stretches: u32,
     pub signals: u32,
 }
 
 // The caller's bytes and their counts.
-#[derive(Drop)]
+#[derive(Clone, Copy)]
 pub struct Sheet<'a> {
     pub bytes: &'a [u8],
     pub counts: Counts,

@@ -1,5 +1,7 @@
 // The reading mark, which moves stretch by stretch along the sheet. Document 01, "Line sheet".
 // Takes: `sheet`, `sheet_fields`. Gives: the operation `Mark::moved`, above a move along an accepted sheet (`step`).
+#![tactic(auto)]
+
 ghost use Rattle.std.specs.Prelude.{◌≡◌, true};
 ghost use Rattle.sheet.specs.Sheet.{line_of, accepted};
 ghost use Rattle.sheet_mark.specs.Answer.{fresh, step_of, MoveAnswers};
@@ -8,14 +10,14 @@ use train::Metre;
 
 // Where the reading stands: before the stretch of that number. Any number is taken.
 #[repr(C)]
-#[derive(Drop)]
+#[derive(Clone, Copy)]
 pub struct Mark {
     pub next: u32,
 }
 
 // A move's answer: the next stretch's fields and the advanced mark; or `end` 1, zeros and the same mark; or a refusal and zeros.
 #[repr(C)]
-#[derive(Drop)]
+#[derive(Clone, Copy)]
 pub struct Move {
     pub refusal: u32,
     pub end: u32,

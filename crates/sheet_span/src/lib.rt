@@ -1,6 +1,8 @@
 // Which stretch of a line holds a point. Document 01, "Line sheet".
 // Takes: `sheet_fields`. Gives: `stretch_at`, to `sheet_walk`; what the least gradient over a span is (specs/Least.antt) and its laws, to
 // all that rests on it.
+#![tactic(auto)]
+
 ghost use Rattle.std.specs.Prelude.{◌≡◌, true, ◌<◌};
 ghost use Rattle.sheet.specs.Sheet.{line_of, accepted};
 ghost use Rattle.sheet_span.specs.Least.{stretch_at, Holds};

@@ -2,6 +2,8 @@
 // that has it. Document 02, Cards 3 and 4.
 // Takes: `sheet_fields`, `sheet_span`, `train_slope`. Gives: the walking mark `Walk`; a step by its number (`step_back`), to `query_back`;
 // the least gradient over a span and its stretch (`least`), to `query_way`.
+#![tactic(auto)]
+
 ghost use Rattle.std.specs.Prelude.{◌≡◌, true, ◌+◌, ◌≤◌, ◌<◌, ltb};
 ghost use Rattle.sheet.specs.Sheet.{line_of, accepted};
 ghost use Rattle.sheet_span.specs.Least.{stretch_at, LeastOver};
@@ -13,7 +15,7 @@ use train::{Gradient, Metre};
 // Where the walk stands: at the stretch of that number; its gradient, and the least gradient of the stretches from where the walk
 // began to there, with the lowest number that has it. In per mille, signed, as read: a rise and a fall of every stretch make the walk
 // dearer.
-#[derive(Drop)]
+#[derive(Clone, Copy)]
 pub struct Walk {
     pub stretch: u32,
     pub gradient: i32,
@@ -22,7 +24,7 @@ pub struct Walk {
 }
 
 // The governing grade of a span: its least gradient, and the number of the stretch that has it, the lowest among equals.
-#[derive(Drop)]
+#[derive(Clone, Copy)]
 pub struct Grade {
     pub gradient: Gradient,
     pub stretch: u32,
@@ -31,7 +33,7 @@ pub struct Grade {
 // A step's answer: the stretch's number and gradient, and the least gradient of the steps up to it with the lowest number that has it;
 // or `end` 1 and zeros; or a refusal and zeros.
 #[repr(C)]
-#[derive(Drop)]
+#[derive(Clone, Copy)]
 pub struct Back {
     pub refusal: u32,
     pub end: u32,

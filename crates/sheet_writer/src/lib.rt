@@ -1,5 +1,7 @@
 // Writing a line sheet from its fields into a lent buffer. Document 01, "Line sheet".
 // Takes: `sheet_lists`, `sheet_bytes`. Gives: the operation `write`.
+#![tactic(auto)]
+
 ghost use Rattle.sheet.specs.Fields.{four_lists};
 ghost use Rattle.sheet_writer.specs.Answer.{Writes};
 

@@ -1,6 +1,8 @@
 // The step model: single distances. Document 01, "Step distances"; document 02, Card 5.
 // Takes: `train_slope`, `step_course`, `step_braking`, `step_quick`. Gives: the operation `step`; to `step_row` a refusal or a
 // course (`start`).
+#![tactic(auto)]
+
 ghost use Rattle.std.specs.Prelude.{◌≡◌, ◌≤◌};
 ghost use Rattle.train.specs.Gradient.{gradient_of};
 ghost use Rattle.train.specs.Refusal.{first_of};
@@ -14,7 +16,7 @@ use train::{Coefficients, Gradient, Kmh, Millimetre, Train};
 
 // The four distances, or a refusal and zeros.
 #[repr(C)]
-#[derive(Drop)]
+#[derive(Clone, Copy)]
 pub struct Distances {
     pub refusal: u32,
     pub ebi: Millimetre,
@@ -24,7 +26,7 @@ pub struct Distances {
 }
 
 // A refusal, or what the speeds do not change.
-#[derive(Drop)]
+#[derive(Clone, Copy)]
 pub enum Begun {
     Refused(u32),
     Ready(Course),

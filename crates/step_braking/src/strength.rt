@@ -6,7 +6,7 @@ use super::Course;
 use train::Kmh;
 
 // The deceleration is gain - loss in m/s² / (10¹² unit).
-#[derive(Drop)]
+#[derive(Clone, Copy)]
 pub struct Strength {
     pub unit: u64,
     pub gain: u64,

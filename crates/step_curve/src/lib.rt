@@ -1,6 +1,8 @@
 // One curve's distance at one pair of speeds, in whole numbers. Document 002, sections 7 and 8.
 // Takes: a course and its strength (`step_braking`), `wide`, `wide_quotient`. Gives: a distance, and whether it fits into so many
 // metres, to `step_quick` and `query_permitted`; `Curve`, to all that name one.
+#![tactic(auto)]
+
 ghost use Rattle.std.specs.Prelude.{◌≡◌, ◌*◌, leb};
 ghost use Rattle.exact.specs.Fraction.{◌over◌, raised};
 ghost use Rattle.wide.specs.Value.{value_of};
@@ -11,7 +13,7 @@ use step_braking::{Course, strength};
 use train::{Kmh, Metre, Millimetre};
 use wide::Wide;
 
-#[derive(Drop)]
+#[derive(Clone, Copy)]
 pub enum Curve {
     Ebi,
     Sbi,
@@ -21,7 +23,7 @@ pub enum Curve {
 
 // What one pair of speeds gives, for every curve: the deceleration in m/s² / (10¹² s), s the greater of V and 1 km/h;
 // Vβ and V in m/s / (9·10¹⁵); the braking part of a sum; what the sum is over to be millimetres.
-#[derive(Drop)]
+#[derive(Clone, Copy)]
 pub struct Terms {
     pub a: u64,
     pub beta: u64,
@@ -31,7 +33,7 @@ pub struct Terms {
 }
 
 // How often a curve counts t_r + tf at Vβ, and 1.5 s at V.
-#[derive(Drop)]
+#[derive(Clone, Copy)]
 pub struct Ahead {
     pub service: u64,
     pub warning: u64,

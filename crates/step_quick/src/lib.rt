@@ -2,6 +2,8 @@
 // so many metres; where they do not, the wide numbers of `step_curve` are asked.
 // Takes: a course (`step_braking`), and `step_curve` where bounds do not decide. Gives: the same distance, and speeds that surely
 // fit, to `step`, `step_row` and `query_permitted`.
+#![tactic(auto)]
+
 ghost use Rattle.std.specs.Prelude.{◌≡◌, true, ℕ, ◌+◌, ◌*◌, ◌-◌, ◌^◌, ◌≤◌};
 ghost use Rattle.step_braking.specs.Plan.{s_of, a_most, Small, Near, Enough};
 ghost use Rattle.step_curve.specs.declared.Curve.TheVariants.{P};
@@ -15,7 +17,7 @@ use train::{Kmh, Metre, Millimetre};
 
 // For every curve: Vβ in m/s / (9·10⁶), lowered; the braking part in µm is at least `part` and at most `most` over `a`. Both are
 // s (Vβ² - V0²) / 64 over 81 decelerations / (32·10⁶), lowered and raised.
-#[derive(Drop)]
+#[derive(Clone, Copy)]
 pub struct Bounds {
     pub beta: u64,
     pub a: u64,
@@ -24,7 +26,7 @@ pub struct Bounds {
 }
 
 // The run at the steady speeds in µm is from low to high.
-#[derive(Drop)]
+#[derive(Clone, Copy)]
 struct Run {
     low: u64,
     high: u64,

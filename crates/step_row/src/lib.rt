@@ -1,5 +1,7 @@
 // Rows of the step model. Document 01, "Step distances"; document 02, Card 5.
 // Takes: `step::start`, `step_braking`, `step_quick`. Gives: the operation `row`.
+#![tactic(auto)]
+
 ghost use Rattle.std.specs.Prelude.{◌≡◌, ℕ, ◌+◌, ◌≤◌, ◌<◌, ◌++◌, length, drop};
 ghost use Rattle.lists.specs.Counted.{up_to};
 ghost use Rattle.train.specs.Gradient.{gradient_of};

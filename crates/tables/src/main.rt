@@ -2,6 +2,8 @@
 // its output comes from the Rust reference, so each check holds the library to the papers read a second time. Units are those of
 // the calls: km/h, metres, per mille, hundredths of a second; millimetres, milliseconds, 120ths of a km/h.
 // Takes: every operation. Gives: a program.
+#![tactic(auto)]
+
 mod grid;
 mod models;
 mod owns;

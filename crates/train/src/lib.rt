@@ -1,6 +1,8 @@
 // The train, the line's gradient and document 002's coefficients, in the units that every model takes and returns.
 // Takes: `exact`. Gives: units, `Train`, `Coefficients` and refusals 1, 2, 3, 5 and 12, to every model above; what every contract says
 // of refusals and of lent memory (specs/Judged.antt, Lent.antt).
+#![tactic(auto)]
+
 ghost use Rattle.std.specs.Prelude.{◌≡◌};
 ghost use Rattle.train.specs.Coefficients.{first};
 
@@ -8,35 +10,35 @@ pub mod refusal;
 
 // A speed in km/h.
 #[repr(C)]
-#[derive(Drop)]
+#[derive(Clone, Copy)]
 pub struct Kmh(pub u32);
 
 // A place or a length in metres.
 #[repr(C)]
-#[derive(Drop)]
+#[derive(Clone, Copy)]
 pub struct Metre(pub u32);
 
 // A distance in millimetres.
 #[repr(C)]
-#[derive(Drop)]
+#[derive(Clone, Copy)]
 pub struct Millimetre(pub u32);
 
 // What a call that writes answers: how many places of the lent list it has written, or a refusal and 0.
 #[repr(C)]
-#[derive(Drop)]
+#[derive(Clone, Copy)]
 pub struct Written {
     pub refusal: u32,
     pub length: u32,
 }
 
-#[derive(Drop)]
+#[derive(Clone, Copy)]
 pub enum BrakeType {
     Passenger,
     Freight,
 }
 
 // weight is the braked weight percentage BW, top the top speed of the service regime.
-#[derive(Drop)]
+#[derive(Clone, Copy)]
 pub struct Train {
     pub brake: BrakeType,
     pub electropneumatic: bool,
@@ -46,14 +48,14 @@ pub struct Train {
 }
 
 // A gradient in per mille, uphill or downhill; one of the two is 0.
-#[derive(Drop)]
+#[derive(Clone, Copy)]
 pub struct Gradient {
     pub rise: u32,
     pub fall: u32,
 }
 
 // A number of either sign: plus - minus.
-#[derive(Drop)]
+#[derive(Clone, Copy)]
 pub struct Signed {
     pub plus: u32,
     pub minus: u32,
@@ -61,7 +63,7 @@ pub struct Signed {
 
 // The coefficients of the slope by document 002's names, which hold for the ramp too: i1 in per mille uphill, i2 a gradient, the
 // others in hundredths.
-#[derive(Drop)]
+#[derive(Clone, Copy)]
 pub struct Inertia {
     pub ki1: u32,
     pub ki2: u32,
@@ -71,7 +73,7 @@ pub struct Inertia {
 }
 
 // Document 002's coefficients by its names: h in tenths of a second, nc in thousandths per km/h, the others in hundredths.
-#[derive(Drop)]
+#[derive(Clone, Copy)]
 pub struct Coefficients {
     pub dt: u32,
     pub h: u32,

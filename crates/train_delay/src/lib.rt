@@ -1,5 +1,7 @@
 // The delay of the brake: document 002, section 7.1.1.
 // Takes: `train`. Gives: the delay of a train, to `step_course`.
+#![tactic(auto)]
+
 ghost use Rattle.std.specs.Prelude.{◌≤◌, ◌≡◌};
 ghost use Rattle.exact.specs.Fraction.{◌over◌, ◌≈q◌};
 ghost use Rattle.train_delay.specs.Delay.{row_of, row_delay, delay};
@@ -7,7 +9,7 @@ ghost use Rattle.train_delay.specs.Delay.{row_of, row_delay, delay};
 use train::{BrakeType, Metre, Train};
 
 // A row's coefficients, in hundredths.
-#[derive(Drop)]
+#[derive(Clone, Copy)]
 pub struct DelayRow {
     pub a: u32,
     pub c: u32,

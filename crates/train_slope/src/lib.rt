@@ -1,6 +1,8 @@
 // What the line's gradient and the train's brake do to the speed: document 002, sections 7.2 and 7.3.4.
 // Takes: `train`. Gives: a gradient as a rise or a fall, its pull and the nominal deceleration, to `step`, `step_course`, `ramp`,
 // `ramp_plan`, `sheet_lists` and `sheet_walk`.
+#![tactic(auto)]
+
 ghost use Rattle.std.specs.Prelude.{◌≡◌, ◌≤◌, ◌^◌};
 ghost use Rattle.exact.specs.Fraction.{signed, ◌over◌, ◌≈q◌};
 ghost use Rattle.train.specs.Gradient.{gradient_of, Moderate};
@@ -10,7 +12,7 @@ ghost use Rattle.train_slope.specs.Slope.{factor, di, dr};
 use train::{Gradient, Inertia};
 
 // A slope's deceleration in 10⁻⁷ m/s²: up7 of an uphill slope, which slows the train, or dn7 of a downhill one.
-#[derive(Drop)]
+#[derive(Clone, Copy)]
 pub struct Pull {
     pub up7: u64,
     pub dn7: u64,

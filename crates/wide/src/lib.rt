@@ -1,6 +1,8 @@
 // Natural numbers below 2^192 by value, each contract in plain numbers.
 // Takes: `exact`, for its proofs. Gives: products, sums and orders, to `wide_quotient`, `step_curve` and `ramp_stop`, and to
 // tests by `wide_calls`.
+#![tactic(auto)]
+
 ghost use Rattle.std.specs.Prelude.{◌≡◌, ◌+◌, ◌*◌, ◌<◌, ◌≤◌, leb};
 ghost use Rattle.wide.specs.Value.{value_of, limit};
 
@@ -8,7 +10,7 @@ mod column;
 
 // Three digits of 64 bits, the least first; by its type each is in range.
 #[repr(C)]
-#[derive(Drop)]
+#[derive(Clone, Copy)]
 pub struct Wide {
     pub low: u64,
     pub mid: u64,

@@ -1,5 +1,7 @@
 // The wide numbers as C calls, for the Rust tests and the benchmark alone. The caller keeps what each `requires` asks.
 // Takes: `wide`, `wide_quotient`. Gives: nothing to a crate above.
+#![tactic(auto)]
+
 ghost use Rattle.std.specs.Prelude.{◌≡◌, ◌+◌, ◌*◌, ◌<◌, ◌≤◌, leb};
 ghost use Rattle.exact.specs.Fraction.{◌over◌, raised};
 ghost use Rattle.wide.specs.Value.{value_of, limit};

@@ -1,6 +1,8 @@
 // The least quotient not below, counted up from an estimate. Of the estimate it needs only that it is not too high; how near it is
 // decides the speed alone.
 // Takes: `wide`. Gives: `quotient_up`, by which `step_curve` and `ramp_stop` round, once and upwards.
+#![tactic(auto)]
+
 ghost use Rattle.std.specs.Prelude.{◌≡◌, ◌+◌, ◌*◌, ◌/◌, ◌<◌, ◌≤◌, ◌^◌};
 ghost use Rattle.exact.specs.Fraction.{◌over◌, raised};
 ghost use Rattle.wide.specs.Value.{value_of};
