@@ -1,0 +1,15 @@
+-- `row`: the three places of a speed have its three ceilings.
+use mathlib.Core.Path.{refl, ◌∙◌}
+use native.Mathlib.Omega.{arith}
+use borrow.Author.Rules.{rules}
+use lib.Dec.{lit<}
+use Rattle.ceilings_stored.proofs.Places.{entry_of}
+use Rattle.ceilings_stored.proofs.row.Goals as goal
+
+pub returns : goal.returns
+returns c =
+    let v = c.args.speed in
+    let w = c.entry-w.ensures ∙ entry_of v 0 (lit< tt) (omega arith) in
+    let sbi = c.entry-sbi.ensures ∙ entry_of v 1 (lit< tt) (omega arith) in
+    let ebi = c.entry-ebi.ensures ∙ entry_of v 2 (lit< tt) (omega arith) in
+    rw (w, sbi, ebi) refl

@@ -1,0 +1,23 @@
+-- `of_coefficients`: any test that holds gives the one number; where none does, those of the slope decide.
+use borrow.Author.Rules.{rules}
+use borrow.Author.Tests.{lt-ltb, le-ltb}
+use mathlib.Core.Logic.{inl, inr}
+use mathlib.Core.Path.{sym, ◌∙◌}
+use Rattle.train.proofs.Judging.{coefficients-turned, inertia-left}
+use Rattle.train.proofs.refusal.of_coefficients.Goals as goal
+
+pub returns : goal.returns
+returns c =
+    inertia-left _ _ (
+      le-ltb _ _ c.if-k-gt200.false,
+      (
+        le-ltb _ _ c.if-k-gt50.false,
+        (
+          sym c.outside.ensures ∙ c.if-outside.false,
+          (
+            le-ltb _ _ c.if-k-gt10.false,
+            (le-ltb _ _ c.if-nc-gt10.false, (le-ltb _ _ c.if-nc-gt10-2.false, (le-ltb _ _ c.if-vc-gt400.false, (le-ltb _ _ c.if-vc-gt0.false, tt)))),
+          ),
+        ),
+      ),
+    ) c.of_inertia.ensures.0
