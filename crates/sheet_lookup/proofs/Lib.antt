@@ -1,5 +1,2 @@
-pub mod Asked
-pub mod Method
-pub mod Above
 pub mod Read
 mod Answers

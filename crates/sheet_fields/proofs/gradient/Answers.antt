@@ -1,0 +1,21 @@
+-- `gradient`: its two bytes lie in the sheet.
+use borrow.Author.Rules.{rules}
+use mathlib.Core.Path.{ap, ◌∙◌}
+use mir.Syntax.{w32}
+use mir.ValLaws.{to_z-of_z}
+use native.Mathlib.Omega.{arith}
+use Rattle.sheet.proofs.Kept.{headed-of}
+use Rattle.sheet_line.specs.Bytes.{signed}
+use Rattle.sheet_fields.proofs.gradient.Goals as goal
+
+pub overflow_mul-k : goal.overflow_mul-k
+overflow_mul-k c = let h = headed-of c.args.s.now c.requires.0 in omega (arith, h.0.lent, h.1.counts.stretches, h.1.counts.signals, c.requires.1)
+
+pub overflow_add-k : goal.overflow_add-k
+overflow_add-k c = let h = headed-of c.args.s.now c.requires.0 in omega (arith, h.0.lent, h.1.counts.stretches, h.1.counts.signals, c.requires.1)
+
+pub overflow_add-k-2 : goal.overflow_add-k-2
+overflow_add-k-2 c = let h = headed-of c.args.s.now c.requires.0 in omega (arith, h.0.lent, h.1.counts.stretches, h.1.counts.signals, c.requires.1)
+
+pub u16_at-requires : goal.u16_at-requires
+u16_at-requires c = let h = headed-of c.args.s.now c.requires.0 in omega (arith, h.0.lent, h.1.counts.stretches, h.1.counts.signals, c.requires.1)
