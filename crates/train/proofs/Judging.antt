@@ -3,18 +3,17 @@ use mathlib.Core.Path.{◌≡◌, refl, sym, subst, ◌∙◌}
 use mathlib.Core.Bool.{Bool, true, false, not, cond}
 use mathlib.Core.List.{List, [], ◌∷◌, ◌++◌}
 use mathlib.Core.Logic.{◌⊎◌, inl, inr, ⊎_elim}
-use Prim.Native.Nat.{ℕ, ◌+◌, ◌*◌, ◌/◌, ◌%◌, ◌≤◌, ◌<◌}
+use Prim.Native.Nat.{ℕ, ◌*◌, ◌/◌, ◌%◌, ◌≤◌, ◌<◌}
 use native.Mathlib.Omega.{arith}
-use native.Mathlib.Nat.{lt_of_not-le, not-le_of_lt, div-add-mod}
+use native.Mathlib.Nat.{lt_of_not-le, not-le_of_lt}
 use native.Mathlib.Decide.{dec_le}
 use borrow.Author.Tests.{ltb-true, ltb-false, leb-true, leb-false, not-true, not-false}
 use lib.Dec.{T, ltb, leb, leb→le}
-use Rattle.exact.specs.Fraction.{Fraction, ◌over◌}
+use Rattle.exact.specs.Fraction.{Fraction}
 use Rattle.train.specs.declared.Train.{Train}
 use Rattle.train.specs.declared.Gradient.{Gradient}
 use Rattle.train.specs.declared.Inertia.{Inertia}
 use Rattle.train.specs.declared.Coefficients.{Coefficients}
-use Rattle.train.specs.Gradient.{Moderate}
 use Rattle.train.specs.Refusal.{Refusal, ◌gives◌, first_of, weight_refusals, length_refusals, train_refusals, gradient_refusals, outside_of, inertia_refusals, own_refusals, coefficient_refusals, strong_enough}
 use Rattle.train.specs.Judged.{Rule, ◌keeps◌, AllKept, FirstBroken, Judged, weight_rule, length_rule, TopSpeed, train_rules, gradient_rule, inertia_rule, coefficient_rule, brake_rule}
 use Rattle.train.proofs.Refusals.{first-after, first-before, NoneHolds, Some, only, nothing, own-rising, inertia-only, coefficients-only}

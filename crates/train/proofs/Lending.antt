@@ -1,9 +1,8 @@
 -- The first demand of a refusal with zeros, and of an answer that writes to nothing.
-use mathlib.Core.Path.{◌≡◌, refl}
+use mathlib.Core.Path.{refl}
 use mathlib.Core.List.{List}
 use Prim.Native.Nat.{ℕ, ◌<◌}
 use native.Mathlib.Omega.{arith}
-use lib.Dec.{lit≤}
 use Rattle.train.specs.Lent.{Zeros, FirstDemand}
 
 pub refused-demand : (n : ℕ) (others lent : List ℕ) → Zeros others → FirstDemand n others lent lent 0

@@ -14,7 +14,7 @@ consulted : (c : After-start-begun) → let a = c.args in Starts a.k (at_speed a
 consulted c = rw c.at_speed.ensures at c.start-begun.ensures
 
 ready : (c : In-Ready) → let a = c.args in IsReady a.k (at_speed a.o 1) c.in-Ready.m
-ready c = rw c.in-Ready.is at (consulted c.before.before.before)
+ready c = rw c.in-Ready.is at (rw c.at_speed.ensures at c.start-begun.ensures)
 
 pub returns-then-overlap-lt1 : goal.returns-then-overlap-lt1
 returns-then-overlap-lt1 c =

@@ -1,8 +1,6 @@
 -- `of_train`: the passenger row by the brake, then the larger of both for freight.
 use mathlib.Core.Path.{◌≡◌}
-use mathlib.Core.Logic.{⊎_elim}
 use Prim.Native.Nat.{ℕ, ◌≤◌, max}
-use borrow.Author.Rules.{rules}
 use native.Mathlib.Omega.{arith}
 use Rattle.exact.specs.Fraction.{◌over◌, ◌≈q◌}
 use Rattle.train.specs.declared.Train.{Train}

@@ -1,7 +1,6 @@
 -- `nominal`: the sum fits, and is the paper's.
 use native.Mathlib.Omega.{arith}
 use Rattle.train_slope.proofs.Decelerations.{dr-is}
-use borrow.Author.Rules.{rules}
 use Rattle.train_slope.proofs.nominal.Goals as goal
 
 pub returns : goal.returns

@@ -1,9 +1,7 @@
 -- `pull_of`: both products fit for coefficients within their spans, and are the paper's deceleration.
 use Prim.Native.Nat.{◌*◌, ◌≤◌}
-use native.Mathlib.Omega.{arith}
 use Rattle.train_slope.proofs.Factors.{factor-small}
 use Rattle.train_slope.proofs.Decelerations.{di-is, slope-small}
-use borrow.Author.Rules.{rules}
 use Rattle.train_slope.proofs.pull_of.Goals as goal
 use Rattle.train_slope.proofs.pull_of.Goals.{After-factor_of}
 

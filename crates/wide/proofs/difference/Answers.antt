@@ -1,6 +1,5 @@
 -- `difference`: two columns and the upper word, from which can be taken what is.
 use Prim.Native.Nat.{◌+◌, ◌≤◌}
-use borrow.Author.Rules.{rules}
 use native.Mathlib.Omega.{arith}
 use Rattle.wide.specs.Value.{value_of}
 use Rattle.wide.proofs.Digits.{difference-law, difference-fits}

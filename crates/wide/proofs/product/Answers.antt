@@ -1,5 +1,4 @@
 -- `product`: one column, whose carry is the second word.
-use borrow.Author.Rules.{rules}
 use Rattle.wide.specs.Value.{value_of}
 use Rattle.wide.proofs.Digits.{two-words}
 use Rattle.wide.proofs.product.Goals as goal

@@ -1,6 +1,5 @@
 -- `sum`: two columns and the upper word, which fits because the sum does.
 use Prim.Native.Nat.{◌+◌, ◌<◌, ◌^◌}
-use borrow.Author.Rules.{rules}
 use native.Mathlib.Omega.{arith}
 use Rattle.wide.specs.Value.{value_of}
 use Rattle.wide.proofs.Digits.{sum-law, sum_fits}

@@ -1,6 +1,5 @@
 -- `times`: two columns and the upper word, which fits because the product does.
 use Prim.Native.Nat.{◌+◌, ◌*◌, ◌<◌, ◌^◌}
-use borrow.Author.Rules.{rules}
 use native.Mathlib.Omega.{arith}
 use Rattle.wide.specs.Value.{value_of}
 use Rattle.wide.proofs.Digits.{times-law, times-fits}

@@ -1,9 +1,8 @@
 -- `estimate`: leading bits by leading bits and 1 is never too much.
-use borrow.Author.Rules.{rules}
 use Prim.Native.Nat.{◌+◌, ◌*◌, ◌-◌, ◌^◌}
 use native.Mathlib.Omega.{arith}
 use native.Mathlib.Nat.{lt_of_le_of_lt}
-use lib.Count.{count_leading_zeros, leading_le}
+use lib.Count.{count_leading_zeros}
 use lib.Pow.{pow_pos}
 use Rattle.wide_quotient.proofs.Division.{bits_left, estimate-law}
 use Rattle.wide_quotient.proofs.estimate.Goals as goal

@@ -1,7 +1,6 @@
 -- `funnel`: the shifted words are the quotient by 2 ^ s.
-use borrow.Author.Rules.{rules}
 use native.Mathlib.Omega.{arith}
-use Rattle.wide_quotient.proofs.Division.{funnel-law, funnel-fits, funnel-none, funnel-all}
+use Rattle.wide_quotient.proofs.Division.{funnel-law, funnel-fits}
 use Rattle.wide_quotient.proofs.funnel.Goals as goal
 
 pub overflow_add-result : goal.overflow_add-result

@@ -1,6 +1,5 @@
 -- `lower`: the estimate from two leading words, or the quotient of two words, is never too much.
 use mathlib.Core.Path.{◌≡◌}
-use borrow.Author.Rules.{rules}
 use native.Mathlib.Omega.{arith}
 use Rattle.wide_quotient.proofs.Division.{upper-two, lower-two, word-above, word-quotient}
 use Rattle.wide_quotient.proofs.lower.Goals as goal

@@ -1,13 +1,12 @@
 -- `quotient_up`: what is left and q times d stay n together, so where no d is left over, q or one more is the least.
-use mathlib.Core.Path.{◌≡◌, refl, sym, ap, ◌∙◌}
-use Prim.Native.Nat.{ℕ, ◌+◌, ◌*◌, ◌-◌, ◌<◌, ◌≤◌}
-use borrow.Author.Rules.{rules}
-use borrow.Author.Tests.{leb-true, leb-false, not-true, not-false}
+use mathlib.Core.Path.{◌≡◌, sym, ◌∙◌}
+use Prim.Native.Nat.{◌+◌, ◌*◌, ◌<◌, ◌≤◌}
+use borrow.Author.Tests.{leb-true, leb-false}
 use native.Mathlib.Omega.{arith}
-use native.Mathlib.Nat.{mul_comm, add-mul, one-mul, le_of_lt, lt_of_le_of_lt}
+use native.Mathlib.Nat.{mul_comm, lt_of_le_of_lt}
 use Rattle.wide.specs.Value.{value_of}
 use Rattle.wide.proofs.Order.{value-below}
-use Rattle.wide_quotient.proofs.Division.{quotient-small, quotient-smaller, least-exact, least_more}
+use Rattle.wide_quotient.proofs.Division.{least-exact, least_more}
 use Rattle.wide_quotient.proofs.quotient_up.Goals as goal
 use Rattle.wide_quotient.proofs.quotient_up.Goals.{At-loop-d, Else-at_most}
 

@@ -1,9 +1,7 @@
 -- `of_coefficients`: any test that holds gives the one number; where none does, those of the slope decide.
-use borrow.Author.Rules.{rules}
-use borrow.Author.Tests.{lt-ltb, le-ltb}
-use mathlib.Core.Logic.{inl, inr}
+use borrow.Author.Tests.{le-ltb}
 use mathlib.Core.Path.{sym, ◌∙◌}
-use Rattle.train.proofs.Judging.{coefficients-turned, inertia-left}
+use Rattle.train.proofs.Judging.{inertia-left}
 use Rattle.train.proofs.refusal.of_coefficients.Goals as goal
 
 pub returns : goal.returns

@@ -1,6 +1,5 @@
 -- `of_weight`: each test is one entry of the list.
-use borrow.Author.Tests.{lt-ltb, le-ltb}
-use native.Mathlib.Omega.{arith}
+use borrow.Author.Tests.{le-ltb}
 use Rattle.train.proofs.Judging.{weight-judges, told}
 use Rattle.train.proofs.refusal.of_weight.Goals as goal
 

@@ -1,5 +1,4 @@
 -- `column::product`: no sum of halves wraps, and together they are the product.
-use borrow.Author.Rules.{rules}
 use Rattle.wide.proofs.Digits.{Product, product_law}
 use Rattle.wide.proofs.column.product.Goals as goal
 use Rattle.wide.proofs.column.product.Goals.{Start}
