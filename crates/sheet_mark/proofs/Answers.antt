@@ -15,7 +15,7 @@ use Rattle.sheet.specs.Sheet.{line_of, accepted}
 use Rattle.sheet.proofs.Kept.{sheet-settles}
 use Rattle.sheet_mark.specs.declared.Mark.{Mark}
 use Rattle.sheet_mark.specs.declared.Move.{Move}
-use Rattle.sheet_mark.specs.Answer.{step_of, move_of, after_moves, Again, Moves, MoveAnswers}
+use Rattle.sheet_mark.specs.Answer.{step_of, move_of, Again, Moves, MoveAnswers}
 use Rattle.sheet_mark.proofs.Walk.{step-on, step-off, moves, moves-in-order}
 use Rattle.sheet_mark.proofs.Whole.{not-again}
 

@@ -1,6 +1,6 @@
 -- The stretches that hold a point of a span are those from the one at its first point to the one at its last.
 use mathlib.Core.Logic.{⊎_elim}
-use Prim.Native.Nat.{ℕ, suc, ◌-◌, ◌≤◌}
+use Prim.Native.Nat.{ℕ, suc, ◌≤◌}
 use native.Mathlib.Omega.{arith}
 use Rattle.lists.proofs.Split.{earlier}
 use Rattle.sheet_line.specs.Line.{Line}

@@ -7,7 +7,6 @@ use borrow.Author.Tests.{le-leb, lt-leb}
 use lib.Dec.{leb, leb-suc-suc}
 use lib.IntN.{ℤ, pos, negsuc}
 use lib.Signed.{le_z}
-use Rattle.train.specs.declared.Gradient.{Gradient}
 use Rattle.train.specs.Gradient.{gradient_of}
 use Rattle.sheet_span.specs.Least.{◌≼◌}
 

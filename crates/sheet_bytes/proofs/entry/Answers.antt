@@ -1,6 +1,5 @@
 -- `entry`: four bytes, then two.
 use Prim.Native.Nat.{◌+◌}
-use borrow.Author.Rules.{rules}
 use mathlib.Core.Path.{refl}
 use native.Mathlib.Omega.{arith}
 use Rattle.lists.proofs.Laid.{put_then}

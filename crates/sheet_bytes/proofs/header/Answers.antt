@@ -1,5 +1,4 @@
 -- `header`: six numbers, one behind the other.
-use borrow.Author.Rules.{rules}
 use mathlib.Core.List.{◌++◌}
 use mathlib.Core.Path.{refl}
 use native.Mathlib.Omega.{arith}

@@ -1,16 +1,9 @@
 -- `records`: the buffer with the records up to the k-th laid over it.
-use Prim.Native.Nat.{ℕ, suc, ◌+◌, ◌-◌, ◌*◌, ◌≤◌, ◌<◌}
-use borrow.Author.Rules.{rules}
+use Prim.Native.Nat.{◌-◌, ◌≤◌}
 use lib.ListN.{length, get_or}
-use mathlib.Core.List.{◌++◌}
-use mathlib.Core.Path.{◌≡◌, refl, sym, subst, ◌∙◌, ap}
-use native.Mathlib.Numerals.{add-one}
-use native.Mathlib.Omega.{arith}
+use mathlib.Core.Path.{◌≡◌}
 use Rattle.lists.specs.Put.{put}
-use Rattle.lists.proofs.Laid.{put_then, put-none, length-put}
-use Rattle.sheet_line.specs.Bytes.{bytes2, bytes4}
 use Rattle.sheet.specs.Sheet.{records}
-use Rattle.sheet.proofs.Parts.{records-length}
 use Rattle.sheet_lists.specs.Lists.{second_of}
 use Rattle.sheet_bytes.proofs.records.Given as goal
 

@@ -1,7 +1,4 @@
 -- `u16_at`: two stores.
-use borrow.Author.Rules.{rules}
-use lib.ListN.{length-set}
-use native.Mathlib.Omega.{arith}
 use Rattle.lists.proofs.Laid.{two-stores}
 use Rattle.sheet_line.specs.Bytes.{bytes2}
 use Rattle.sheet_bytes.proofs.u16_at.Goals as goal

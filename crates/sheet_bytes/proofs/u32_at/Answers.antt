@@ -1,6 +1,5 @@
 -- `u32_at`: two numbers of two bytes, one behind the other.
 use Prim.Native.Nat.{◌+◌, ◌/◌, ◌%◌}
-use borrow.Author.Rules.{rules}
 use mathlib.Core.Path.{refl}
 use native.Mathlib.Omega.{arith}
 use Rattle.lists.proofs.Laid.{put_then}

@@ -1,6 +1,5 @@
 -- `whole`: the header, then both tables, one behind the other.
 use Prim.Native.Nat.{◌+◌, ◌*◌}
-use borrow.Author.Rules.{rules}
 use lib.IntN.{pos}
 use lib.ListN.{length, get_or, length-append}
 use mathlib.Core.List.{◌++◌}

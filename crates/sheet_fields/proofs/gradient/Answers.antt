@@ -1,11 +1,6 @@
 -- `gradient`: its two bytes lie in the sheet.
-use borrow.Author.Rules.{rules}
-use mathlib.Core.Path.{ap, ◌∙◌}
-use mir.Syntax.{w32}
-use mir.ValLaws.{to_z-of_z}
 use native.Mathlib.Omega.{arith}
 use Rattle.sheet.proofs.Kept.{headed-of}
-use Rattle.sheet_line.specs.Bytes.{signed}
 use Rattle.sheet_fields.proofs.gradient.Goals as goal
 
 pub overflow_mul-k : goal.overflow_mul-k

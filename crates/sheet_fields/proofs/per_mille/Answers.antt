@@ -1,6 +1,5 @@
 -- `per_mille`: 32,768 up, wrapped at 65,536, and 32,768 down is 65,536 less from 32,768 on.
 use Prim.Native.Nat.{ℕ, ◌+◌, ◌-◌, ◌%◌, ◌≤◌, ◌<◌}
-use borrow.Author.Rules.{rules}
 use borrow.Author.Tests.{lt-ltb, le-ltb}
 use lib.IntN.{ℤ, pos, negsuc, ◌-ℤ◌}
 use mathlib.Core.Logic.{⊎_elim}

@@ -1,5 +1,4 @@
 -- `signal_at`: a signal's six bytes lie in the sheet.
-use borrow.Author.Rules.{rules}
 use native.Mathlib.Omega.{arith}
 use Rattle.sheet.proofs.Kept.{headed-of}
 use Rattle.sheet_fields.proofs.signal_at.Goals as goal

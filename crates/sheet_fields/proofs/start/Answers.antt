@@ -1,7 +1,5 @@
 -- `start`: its four bytes lie in the sheet.
-use mathlib.Core.Path.{ap}
 use native.Mathlib.Omega.{arith}
-use Rattle.train.specs.Units.{metres}
 use Rattle.sheet.proofs.Kept.{headed-of}
 use Rattle.sheet_fields.proofs.start.Goals as goal
 

@@ -1,5 +1,4 @@
 -- `bits`: 65,536 less a fall, or a rise.
-use borrow.Author.Rules.{rules}
 use mathlib.Core.Path.{◌≡◌, ap, ◌∙◌}
 use mir.Syntax.{w16, w32}
 use mir.Val.{to_z, of_z}
@@ -8,7 +7,7 @@ use native.Mathlib.Omega.{arith}
 use Rattle.train.specs.Gradient.{gradient_of}
 use Rattle.sheet_line.specs.Bytes.{signed}
 use Rattle.sheet_line.proofs.Complement.{complement-fits, signed-complement}
-use Rattle.sheet_lists.proofs.Halves.{fall-fits, down_is, up_is}
+use Rattle.sheet_lists.proofs.Halves.{down_is, up_is}
 use Rattle.sheet_lists.proofs.bits.Goals as goal
 use Rattle.sheet_lists.proofs.bits.Goals.{After-gradient_of-g}
 

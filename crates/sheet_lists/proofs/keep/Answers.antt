@@ -1,8 +1,5 @@
 -- `keep`: the pairs, the counts, the first start, and both tables.
-use borrow.Author.Rules.{rules}
-use borrow.Author.Tests.{not-true, not-false}
 use mathlib.Core.Path.{sym}
-use native.Mathlib.Omega.{arith}
 use Rattle.lists.proofs.Holding.{refuted}
 use Rattle.sheet_line.proofs.Deciding.{agrees}
 use Rattle.sheet.proofs.Writable.{writable-at, writable-of}

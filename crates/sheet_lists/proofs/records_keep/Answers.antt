@@ -1,14 +1,12 @@
 -- `records_keep`: the records up to the k-th keep their rules, and the next may not start before `low`.
-use Prim.Native.Nat.{ℕ, ◌-◌, ◌≤◌, ◌<◌}
-use borrow.Author.Rules.{rules}
-use borrow.Author.Tests.{not-true, not-false}
-use lib.ListN.{length, get_or}
-use mathlib.Core.Path.{◌≡◌, refl, subst}
+use Prim.Native.Nat.{ℕ, ◌≤◌}
+use lib.ListN.{get_or}
+use mathlib.Core.Path.{refl}
 use native.Mathlib.Numerals.{add-one}
 use native.Mathlib.Omega.{arith}
-use Rattle.sheet_line.specs.Records.{Decides, Along, lowest}
-use Rattle.sheet_line.proofs.Deciding.{said-yes, said-no, decides-alike}
-use Rattle.sheet_line.proofs.Tables.{on_line, none_yet, one_more, at_each}
+use Rattle.sheet_line.specs.Records.{Decides, lowest}
+use Rattle.sheet_line.proofs.Deciding.{said-no, decides-alike}
+use Rattle.sheet_line.proofs.Tables.{none_yet, one_more, at_each}
 use Rattle.sheet_lists.specs.Lists.{Rule}
 use Rattle.sheet_lists.proofs.Rules.{to-rule, from-rule}
 use Rattle.sheet_lists.proofs.records_keep.Goals as goal

@@ -1,6 +1,4 @@
 -- `read_stretch`: refusal 7, else what the opened sheet says.
-use borrow.Author.Rules.{rules}
-use borrow.Author.Tests.{not-true, not-false}
 use mathlib.Core.Path.{sym, ◌∙◌}
 use Rattle.sheet_mark.proofs.Whole.{not-again, still-again}
 use Rattle.sheet_lookup.specs.Answer.{stretch_of}

@@ -1,5 +1,4 @@
 -- `least`: steps until the stretch holds the span's first point.
-use borrow.Author.Rules.{rules}
 use borrow.Author.Tests.{ltb-true, ltb-false}
 use mathlib.Core.Path.{sym, ap, subst, ◌∙◌}
 use mir.Syntax.{w32}

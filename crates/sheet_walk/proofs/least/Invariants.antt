@@ -1,17 +1,7 @@
 -- `least`: steps until the stretch holds the span's first point.
-use borrow.Author.Rules.{rules}
-use borrow.Author.Tests.{ltb-true, ltb-false}
-use mathlib.Core.Path.{sym, ap, subst, ◌∙◌}
-use mir.Syntax.{w32}
-use mir.ValLaws.{to_z-of_z}
-use native.Mathlib.Omega.{arith}
-use Prim.Native.Nat.{ℕ, suc, ◌<◌}
+use Prim.Native.Nat.{ℕ}
 use Rattle.sheet.specs.Sheet.{line_of}
-use Rattle.sheet.proofs.Kept.{headed-of}
-use Rattle.sheet_span.specs.Least.{stretch_at}
-use Rattle.sheet_walk.specs.declared.Walk.{Walk}
-use Rattle.sheet_walk.proofs.Walks.{further-stretch}
-use Rattle.sheet_walk.proofs.Steps.{Spans, Underway, begins, more, goes_on, numbered, arrived, all-steps}
+use Rattle.sheet_walk.proofs.Steps.{Underway}
 use Rattle.sheet_walk.proofs.least.Given as goal
 
 -- after some steps from where the walk began

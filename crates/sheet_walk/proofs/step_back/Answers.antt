@@ -1,12 +1,11 @@
 -- `step_back`: so many steps, or the end where the stretch that holds the first point comes sooner.
-use borrow.Author.Rules.{rules}
-use borrow.Author.Tests.{ltb-true, ltb-false, not-true, not-false}
+use borrow.Author.Tests.{ltb-true, ltb-false}
 use mathlib.Core.Path.{◌≡◌, sym, subst, ◌∙◌}
 use mir.Syntax.{w32}
 use mir.ValLaws.{to_z-of_z}
 use native.Mathlib.Numerals.{add-one}
 use native.Mathlib.Omega.{arith}
-use Prim.Native.Nat.{ℕ, ◌+◌, ◌-◌, ◌<◌, ◌≤◌}
+use Prim.Native.Nat.{ℕ, ◌+◌, ◌<◌}
 use Rattle.sheet.specs.Sheet.{line_of}
 use Rattle.sheet.proofs.Kept.{headed-of}
 use Rattle.sheet_span.specs.Least.{stretch_at}

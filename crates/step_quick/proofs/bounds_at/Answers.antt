@@ -8,7 +8,7 @@ use Rattle.step_quick.proofs.bounds_at.Goals as goal
 use Rattle.step_quick.proofs.bounds_at.Goals.{After-at}
 
 -- it fits, and is enough
-strong : (c : After-at) → let s = c.at.result in (c.unit ≤ 330) × ((c.gain ≤ a_most) × (c.loss + 50000000000 * c.unit ≤ c.gain))
+strong : (c : After-at) → let s = c.at.result in (s.unit ≤ 330) × ((s.gain ≤ a_most) × (s.loss + 50000000000 * s.unit ≤ s.gain))
 strong c =
     let a = c.args in
     rw (c.at.ensures.0, c.at.ensures.1, c.at.ensures.2)

@@ -1,6 +1,4 @@
 -- `accepts`: the header, then the fields.
-use borrow.Author.Rules.{rules}
-use borrow.Author.Tests.{not-true, not-false}
 use mathlib.Core.Path.{sym, ◌∙◌}
 use Rattle.sheet.proofs.RoundTrip.{read-write}
 use Rattle.lists.proofs.Holding.{no, refuted}

@@ -1,11 +1,8 @@
 -- `fields_keep`: the counts, the first start, and both tables.
 use Prim.Native.Nat.{ℕ, ◌+◌, ◌*◌}
-use borrow.Author.Rules.{rules}
-use borrow.Author.Tests.{not-true, not-false}
 use mathlib.Core.Bool.{Bool}
 use mathlib.Core.List.{List}
 use mathlib.Core.Path.{◌≡◌, sym, ◌∙◌, refl, ap}
-use native.Mathlib.Omega.{arith}
 use Rattle.sheet_line.specs.declared.Table.{Table}
 use Rattle.sheet_line.specs.declared.Table.TheVariants.{Stretches, Signals}
 use Rattle.sheet_line.specs.Records.{KeepsItself, Along, Decides, Counts}

@@ -1,16 +1,11 @@
 -- `records_keep`: the records up to the k-th keep their rules, and the next may not start before `low`.
-use borrow.Author.Rules.{rules}
-use borrow.Author.Tests.{not-true, not-false}
-use mathlib.Core.List.{List}
-use mathlib.Core.Path.{◌≡◌, refl}
+use mathlib.Core.Path.{refl}
 use native.Mathlib.Omega.{arith}
 use native.Mathlib.Numerals.{add-one}
-use Prim.Native.Nat.{ℕ, ◌+◌, ◌-◌, ◌*◌, ◌≤◌}
-use Rattle.sheet_line.specs.declared.Table.{Table}
-use Rattle.sheet_line.specs.Bytes.{u16_at, u32_at}
-use Rattle.sheet_line.specs.Records.{Decides, KeepsItself, Along, lowest}
-use Rattle.sheet_line.proofs.Deciding.{said-yes, said-no}
-use Rattle.sheet_line.proofs.Tables.{on_line, none_yet, one_more, at_each}
+use Prim.Native.Nat.{◌≤◌}
+use Rattle.sheet_line.specs.Records.{Decides, lowest}
+use Rattle.sheet_line.proofs.Deciding.{said-no}
+use Rattle.sheet_line.proofs.Tables.{none_yet, one_more, at_each}
 use Rattle.sheet.proofs.check.records_keep.Goals as goal
 use Rattle.sheet.proofs.check.records_keep.Goals.{After-record_keeps}
 use Rattle.sheet.proofs.check.records_keep.Invariants.{metres, Rule}

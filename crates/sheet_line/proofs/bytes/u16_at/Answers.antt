@@ -1,5 +1,4 @@
 -- `u16_at`: two bytes, least significant first.
-use borrow.Author.Rules.{rules}
 use native.Mathlib.Omega.{arith}
 use Rattle.sheet_line.specs.Bytes.{u16_at}
 use Rattle.sheet_line.proofs.bytes.u16_at.Goals as goal

@@ -1,5 +1,4 @@
 -- `u32_at`: four bytes, least significant first.
-use borrow.Author.Rules.{rules}
 use Rattle.sheet_line.specs.Bytes.{u32_at}
 use Rattle.sheet_line.proofs.bytes.u32_at.Goals as goal
 

@@ -1,8 +1,5 @@
 -- `half_keeps`: -35 to 35 are 0 to 35 and 65,501 to 65,535; an overlap is added once.
-use borrow.Author.Rules.{rules}
 use borrow.Author.Tests.{leb-true, leb-false}
-use native.Mathlib.Omega.{arith}
-use Prim.Native.Nat.{◌+◌}
 use Rattle.sheet_line.proofs.Complement.{small-rise, small-fall, too-steep}
 use Rattle.sheet_line.proofs.Deciding.{said-yes}
 use Rattle.sheet_line.proofs.rules.half_keeps.Goals as goal

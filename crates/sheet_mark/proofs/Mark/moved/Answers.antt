@@ -1,6 +1,4 @@
 -- `Mark::moved`: bytes that are no sheet are refused; else the step.
-use borrow.Author.Rules.{rules}
-use borrow.Author.Tests.{not-true, not-false}
 use mathlib.Core.Bool.{true}
 use mathlib.Core.Path.{◌≡◌, sym, ◌∙◌}
 use Rattle.sheet.specs.Sheet.{accepted}
