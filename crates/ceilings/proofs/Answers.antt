@@ -1,5 +1,5 @@
 -- A speed over 330 is refused with zeros; of any other the answer is the three ceilings.
-use mathlib.Core.Path.{◌≡◌, refl}
+use mathlib.Core.Path.{refl}
 use mathlib.Core.List.{[]}
 use mathlib.Core.Logic.{inl}
 use Prim.Native.Nat.{◌≤◌, ◌<◌}

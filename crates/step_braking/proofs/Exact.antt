@@ -19,7 +19,7 @@ use Rattle.train.specs.declared.Coefficients.{Coefficients}
 use Rattle.train.specs.Units.{speed}
 use Rattle.train_slope.specs.Slope.{di}
 use Rattle.step_braking.specs.declared.Course.{Course}
-use Rattle.step_braking.specs.Braking.{T, K0, KC, dp, Vβ, strong}
+use Rattle.step_braking.specs.Braking.{K0, KC, dp, Vβ, strong}
 use Rattle.step_braking.specs.Plan.{v9, s_of, beta_of, brake_of, gain_of, loss_of, Enough, strong_of}
 use Rattle.step_braking.specs.Agreement.{IsCourse}
 

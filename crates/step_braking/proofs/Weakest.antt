@@ -3,11 +3,11 @@ use mathlib.Core.Path.{◌≡◌, refl}
 use mathlib.Core.List.{[], ◌∷◌}
 use Prim.Native.Nat.{ℕ, ◌+◌, ◌*◌, ◌-◌, ◌≤◌, ◌<◌}
 use native.Mathlib.Omega.{arith}
-use native.Mathlib.Nat.{le_refl, le_of_mul-le-mul_left}
+use native.Mathlib.Nat.{le_of_mul-le-mul_left}
 use Rattle.exact.proofs.Polynomial.{num, ◌⊕◌, ◌⊗◌}
 use Rattle.exact.proofs.Certificate.{x0, x1, x2, x3, x4, x5, x6, done, times, cert}
 use Rattle.step_braking.specs.declared.Course.{Course}
-use Rattle.step_braking.specs.Plan.{s_of, gain_of, loss_of, Enough, Small, Near, Weakest}
+use Rattle.step_braking.specs.Plan.{s_of, gain_of, loss_of, Small, Near, Weakest}
 use Rattle.step_braking.proofs.Bounds.{s-small, gain-small, loss-small}
 use Rattle.step_braking.proofs.Ends.{BrakesBy, rises_by, between-by}
 

@@ -1,8 +1,5 @@
 -- `ceilings`: refused above 330; else the three ceilings, equal to the printed ones.
 use native.Mathlib.Omega.{arith}
-use lib.Dec.{T, leb, leb→le}
-use Rattle.ceilings.specs.declared.Band.{Band}
-use Rattle.ceilings.specs.Ceilings.{Narrow}
 use Rattle.ceilings.proofs.Answers.{ceilings-refused, ceilings-given}
 use Rattle.ceilings.proofs.ceilings.Goals as goal
 

@@ -1,7 +1,6 @@
 -- `row`: the three places of a speed have its three ceilings.
 use mathlib.Core.Path.{refl, ◌∙◌}
 use native.Mathlib.Omega.{arith}
-use borrow.Author.Rules.{rules}
 use lib.Dec.{lit<}
 use Rattle.ceilings_stored.proofs.Places.{entry_of}
 use Rattle.ceilings_stored.proofs.row.Goals as goal

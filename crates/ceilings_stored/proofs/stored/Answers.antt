@@ -1,7 +1,6 @@
 -- `stored`: refused above 330; else the three ceilings, equal to the printed ones. The table keeps its rule by one computed test.
 use mathlib.Core.Path.{refl}
 use native.Mathlib.Omega.{arith}
-use borrow.Author.Rules.{rules}
 use Rattle.ceilings.specs.Ceilings.{grown_to, ceiling_of}
 use Rattle.ceilings.proofs.Answers.{ceilings-refused, ceilings-given}
 use Rattle.ceilings_stored.specs.Table.{entry_at}

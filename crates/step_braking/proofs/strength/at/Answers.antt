@@ -1,23 +1,18 @@
 -- `at`: the bounds on a course and its speeds keep every product small, and the sums are the plan's.
 use Prim.Native.Nat.{ℕ, ◌+◌, ◌*◌, ◌-◌, ◌≤◌}
-use borrow.Author.Rules.{rules}
 use native.Mathlib.Omega.{arith}
 use Rattle.step_braking.specs.declared.Course.{Course}
 use Rattle.step_braking.specs.Plan.{s_of, brake_of, gain_of, loss_of, Small, Near}
 use Rattle.step_braking.proofs.Bounds.{s-small, target_small, brake-small, fast-small, slope-small, gain-small, loss-small}
 use Rattle.step_braking.proofs.strength.at.Goals as goal
 use Rattle.step_braking.proofs.strength.at.Goals.{After-above-fast}
-
 -- what keeps each term small, u the unit and x the speed above VC
 -- `at`: the bounds on a course and its speeds keep every product small, and the sums are the plan's.
 use Prim.Native.Nat.{ℕ, ◌+◌, ◌*◌, ◌-◌, ◌≤◌}
-use borrow.Author.Rules.{rules}
 use native.Mathlib.Omega.{arith}
 use Rattle.step_braking.specs.declared.Course.{Course}
 use Rattle.step_braking.specs.Plan.{s_of, brake_of, gain_of, loss_of, Small, Near}
 use Rattle.step_braking.proofs.Bounds.{s-small, target_small, brake-small, fast-small, slope-small, gain-small, loss-small}
-use Rattle.step_braking.proofs.strength.at.Statement.{statement}
-use Rattle.step_braking.proofs.strength.at.Tie as tie
 
 -- what keeps each term small, u the unit and x the speed above VC
 record Sizes (c : Course) (u x v0 : ℕ) : Type 0 where

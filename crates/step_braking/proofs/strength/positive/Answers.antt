@@ -1,5 +1,4 @@
 -- `positive`: the greater of the speed and 1.
-use borrow.Author.Rules.{rules}
 use native.Mathlib.Omega.{arith}
 use Rattle.step_braking.specs.Plan.{s_of}
 use Rattle.step_braking.proofs.strength.positive.Goals as goal

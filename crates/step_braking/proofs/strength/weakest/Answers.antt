@@ -1,6 +1,5 @@
 -- `weakest`: the products fit, and the end that is chosen is the weaker.
-use Prim.Native.Nat.{ℕ, ◌+◌, ◌*◌, ◌≤◌}
-use borrow.Author.Rules.{rules}
+use Prim.Native.Nat.{ℕ, ◌*◌, ◌≤◌}
 use native.Mathlib.Nat.{mul-le-mul, le_of_lt}
 use native.Mathlib.Omega.{arith}
 use Rattle.step_braking.specs.declared.Course.{Course}
@@ -9,19 +8,15 @@ use Rattle.step_braking.proofs.Bounds.{s-small, gain-small, loss-small}
 use Rattle.step_braking.proofs.Weakest.{weakest-first, weakest-lower, weakest-higher}
 use Rattle.step_braking.proofs.strength.weakest.Goals as goal
 use Rattle.step_braking.proofs.strength.weakest.Goals.{After-at-first, After-at-last}
-
 -- how long a strength's numbers are
 -- `weakest`: the products fit, and the end that is chosen is the weaker.
-use Prim.Native.Nat.{ℕ, ◌+◌, ◌*◌, ◌≤◌}
-use borrow.Author.Rules.{rules}
+use Prim.Native.Nat.{ℕ, ◌*◌, ◌≤◌}
 use native.Mathlib.Nat.{mul-le-mul, le_of_lt}
 use native.Mathlib.Omega.{arith}
 use Rattle.step_braking.specs.declared.Course.{Course}
 use Rattle.step_braking.specs.Plan.{s_of, gain_of, loss_of, Small, Near, a_most}
 use Rattle.step_braking.proofs.Bounds.{s-small, gain-small, loss-small}
 use Rattle.step_braking.proofs.Weakest.{weakest-first, weakest-lower, weakest-higher}
-use Rattle.step_braking.proofs.strength.weakest.Statement.{statement}
-use Rattle.step_braking.proofs.strength.weakest.Tie as tie
 
 -- how long a strength's numbers are
 record Sizes (unit gain loss : ℕ) : Type 0 where
