@@ -26,7 +26,7 @@ use Rattle.step_curve.specs.declared.Curve.{Curve}
 use Rattle.step_curve.specs.declared.Curve.TheVariants as curve
 use Rattle.step_braking.specs.declared.Course.{Course}
 use Rattle.step_curve.specs.declared.Terms.{Terms}
-use Rattle.step_braking.specs.Braking.{t_r, T, dp, Vβ}
+use Rattle.step_braking.specs.Braking.{t_r, dp, Vβ}
 use Rattle.step_curve.specs.Step.{EBI, SBI, W, P, formula, distance}
 use Rattle.step_braking.specs.Plan.{v9, s_of, beta_of, gain_of, loss_of, Enough}
 use Rattle.step_curve.specs.Plan.{square_of, run_of, a_of, sum_at, place_of, sum_of, IsTerms}

@@ -1,8 +1,6 @@
 -- `ahead`: the walk from the signal's own point to the tail.
-use borrow.Author.Rules.{rules}
 use mathlib.Core.Path.{◌≡◌, subst}
 use Prim.Native.Nat.{◌+◌}
-use native.Mathlib.Omega.{arith}
 use Rattle.sheet.specs.Sheet.{line_of}
 use Rattle.sheet.proofs.Kept.{headed-of}
 use Rattle.sheet_span.specs.Least.{LeastOver}

@@ -1,5 +1,4 @@
 -- `past`: the walk from the overlap's last point to the tail of a train at the signal.
-use borrow.Author.Rules.{rules}
 use mathlib.Core.Path.{◌≡◌, subst}
 use native.Mathlib.Omega.{arith}
 use Prim.Native.Nat.{ℕ, ◌+◌, ◌-◌}

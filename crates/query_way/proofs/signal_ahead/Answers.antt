@@ -1,7 +1,6 @@
 -- `signal_ahead`: the read's refusal, then 9, else the signal.
-use borrow.Author.Rules.{rules}
 use mathlib.Core.Path.{◌≡◌, sym, subst, ap, ◌∙◌}
-use Prim.Native.Nat.{ℕ, ◌≤◌}
+use Prim.Native.Nat.{◌≤◌}
 use native.Mathlib.Omega.{arith}
 use Rattle.train.specs.declared.Metre.{Metre}
 use Rattle.train.proofs.Judging.{told}

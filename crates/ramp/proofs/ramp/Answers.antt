@@ -1,6 +1,4 @@
 -- `ramp`: a refusal is the definition's, and so is the stop, of the gradient that came in.
-use mathlib.Core.Path.{◌≡◌}
-use borrow.Author.Rules.{rules}
 use mir.Syntax.{w32}
 use mir.ValLaws.{to_z-of_z}
 use Rattle.train.specs.Gradient.{gradient_of}

@@ -1,12 +1,11 @@
 -- `start`: the inputs' refusal, or 10, or a plan that is the paper's and strong enough.
 use mathlib.Core.Path.{◌≡◌, sym, ◌∙◌}
-use borrow.Author.Rules.{rules}
-use borrow.Author.Tests.{leb-true, not-true, not-false}
+use borrow.Author.Tests.{leb-true}
 use native.Mathlib.Omega.{arith}
 use lib.Dec.{lit<}
 use Rattle.train.specs.Refusal.{first_of}
 use Rattle.ramp.specs.Answer.{inputs, strong}
-use Rattle.ramp.proofs.Answers.{inputs-fit, by-inputs, by-weakness, by-none}
+use Rattle.ramp.proofs.Answers.{inputs-fit, by-weakness, by-none}
 use Rattle.ramp.proofs.Kept.{strong-is}
 use Rattle.ramp.proofs.start.Goals as goal
 use Rattle.ramp.proofs.start.Goals.{After-is_strong, Else-bad-gt0}

@@ -1,7 +1,4 @@
 -- `stop_at`: at the moment that the search finds the train has not gone back.
-use mathlib.Core.Path.{refl, ap}
-use Prim.Native.Nat.{◌+◌}
-use borrow.Author.Rules.{rules}
 use native.Mathlib.Omega.{arith}
 use Rattle.ramp_motion.proofs.Furthest.{ahead}
 use Rattle.ramp.proofs.stop_at.Goals as goal

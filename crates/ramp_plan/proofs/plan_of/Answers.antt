@@ -1,9 +1,6 @@
 -- `plan_of`: every product fits, and each number is the paper's.
-use Prim.Native.Nat.{◌*◌, ◌≤◌}
-use borrow.Author.Rules.{rules}
-use native.Mathlib.Omega.{arith}
 use Rattle.ramp_motion.proofs.Planned.{is-plan}
-use Rattle.ramp_plan.proofs.Whole.{by-rise, is-small}
+use Rattle.ramp_plan.proofs.Whole.{is-small}
 use Rattle.ramp_plan.proofs.plan_of.Goals as goal
 
 pub returns : goal.returns

@@ -1,8 +1,6 @@
 -- `step`: a refusal is the definition's, and so are the four distances.
-use borrow.Author.Rules.{rules}
 use mir.Syntax.{w32}
 use mir.ValLaws.{to_z-of_z}
-use native.Mathlib.Nat.{le_refl}
 use Rattle.train.specs.Gradient.{gradient_of}
 use Rattle.step.specs.declared.Begun.TheVariants.{Refused}
 use Rattle.step.specs.Begin.{Starts, IsReady}

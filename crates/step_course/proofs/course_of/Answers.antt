@@ -1,9 +1,5 @@
 -- `course_of`: every product fits for coefficients within their spans, and each number is the paper's.
-use Prim.Native.Nat.{◌*◌, ◌≤◌}
-use native.Mathlib.Omega.{arith}
-use Rattle.step_braking.proofs.Steady.{delay-small, power_small}
 use Rattle.step_braking.proofs.Coursed.{is-course}
-use borrow.Author.Rules.{rules}
 use Rattle.step_course.proofs.course_of.Goals as goal
 
 pub returns : goal.returns

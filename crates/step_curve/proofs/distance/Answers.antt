@@ -1,5 +1,4 @@
 -- `distance`: the quotient has 32 bits.
-use mathlib.Core.Path.{◌∙◌}
 use native.Mathlib.Nat.{mul-pos}
 use lib.Dec.{lit<}
 use Rattle.step_curve.proofs.Bounds.{quotient_fits}

@@ -1,5 +1,4 @@
 -- `fits`: both sides fit 192 bits.
-use borrow.Author.Rules.{rules}
 use native.Mathlib.Omega.{arith}
 use Rattle.step_curve.proofs.Bounds.{room_fits}
 use Rattle.step_curve.proofs.fits.Goals as goal

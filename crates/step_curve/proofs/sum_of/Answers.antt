@@ -1,13 +1,10 @@
 -- `sum_of`: the way times 9 a and the braking part fit 192 bits, and are the plan's sum.
 use mathlib.Core.Path.{◌≡◌, ◌∙◌}
-use Prim.Native.Nat.{ℕ, ◌+◌, ◌*◌, ◌^◌, ◌≤◌, ◌<◌}
-use borrow.Author.Rules.{rules}
+use Prim.Native.Nat.{◌+◌, ◌*◌, ◌<◌}
 use native.Mathlib.Nat.{mul_comm, le-add_right, lt_of_le_of_lt}
-use native.Mathlib.Omega.{arith}
 use Rattle.wide.specs.Value.{value_of, limit}
-use Rattle.step_braking.specs.Plan.{a_most}
 use Rattle.step_curve.specs.Plan.{run_of, sum_of}
-use Rattle.step_curve.proofs.Bounds.{steady-small, run_fits, sum_fits}
+use Rattle.step_curve.proofs.Bounds.{run_fits, sum_fits}
 use Rattle.step_curve.proofs.sum_of.Goals as goal
 use Rattle.step_curve.proofs.sum_of.Goals.{After-product-warning, After-sum-run}
 

@@ -1,7 +1,6 @@
 -- `terms_at`: the products fit, and each number is the plan's.
 use mathlib.Core.Path.{◌≡◌, ◌∙◌}
 use Prim.Native.Nat.{◌≤◌}
-use borrow.Author.Rules.{rules}
 use native.Mathlib.Nat.{mul_comm, le_trans}
 use native.Mathlib.Omega.{arith}
 use Rattle.wide.specs.Value.{value_of}

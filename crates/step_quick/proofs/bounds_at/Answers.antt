@@ -1,6 +1,5 @@
 -- `bounds_at`: with the strength at the speed itself.
 use Prim.Native.Nat.{◌+◌, ◌*◌, ◌≤◌}
-use borrow.Author.Rules.{rules}
 use Rattle.step_braking.specs.Plan.{a_most}
 use Rattle.step_braking.proofs.Bounds.{s-small, gain-small}
 use Rattle.step_curve.specs.Plan.{a_of}

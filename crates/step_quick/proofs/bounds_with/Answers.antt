@@ -1,6 +1,5 @@
 -- `bounds_with`: the bounds hold, and each product is a word long.
 use Prim.Native.Nat.{◌*◌, ◌-◌, ◌≤◌}
-use borrow.Author.Rules.{rules}
 use native.Mathlib.Nat.{le_trans}
 use native.Mathlib.Omega.{arith}
 use Rattle.step_braking.specs.Plan.{v9, beta_of, a_most, beta_most}

@@ -1,7 +1,6 @@
 -- `distance`: what the bounds settle is the distance, and so is what the wide numbers give.
 use mathlib.Core.Path.{◌∙◌}
-use Prim.Native.Nat.{◌+◌, ◌≤◌}
-use borrow.Author.Rules.{rules}
+use Prim.Native.Nat.{◌+◌}
 use native.Mathlib.Omega.{arith}
 use Rattle.step_braking.specs.Plan.{v9, s_of, beta_of}
 use Rattle.step_braking.proofs.Bounds.{s-small}

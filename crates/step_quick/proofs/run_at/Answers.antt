@@ -1,5 +1,4 @@
 -- `run_at`: the bounds hold, and each product is a word long.
-use borrow.Author.Rules.{rules}
 use native.Mathlib.Omega.{arith}
 use Rattle.step_quick.proofs.Steady.{Long, long, run-above, run-below}
 use Rattle.step_quick.proofs.run_at.Goals as goal

@@ -1,9 +1,6 @@
 -- `surely_fit`: the products are a word long, and where the room is enough for the last speed with the weakest brake, each fits.
-use mathlib.Core.Bool.{false≢true}
-use Prim.Native.Nat.{◌+◌, ◌*◌, ◌-◌, ◌/◌, ◌≤◌}
-use borrow.Author.Rules.{rules}
+use Prim.Native.Nat.{◌*◌, ◌-◌}
 use borrow.Author.Tests.{ltb-true}
-use native.Mathlib.Nat.{mul-le-mul}
 use native.Mathlib.Omega.{arith}
 use Rattle.step_braking.specs.Plan.{v9, beta_of}
 use Rattle.step_curve.specs.declared.Curve.TheVariants.{P}

@@ -1,11 +1,10 @@
 -- `by_wide`: the quotient fits, and is the place raised.
 use mathlib.Core.Path.{◌≡◌}
 use Prim.Native.Nat.{◌-◌}
-use borrow.Author.Rules.{rules}
 use native.Mathlib.Omega.{arith}
 use Rattle.wide.specs.Value.{value_of}
 use Rattle.ramp_motion.specs.Plan.{gain, loss}
-use Rattle.ramp_stop.proofs.Bounds.{quotient_fits, place-from}
+use Rattle.ramp_stop.proofs.Bounds.{place-from}
 use Rattle.ramp_stop.proofs.place.by_wide.Goals as goal
 use Rattle.ramp_stop.proofs.place.by_wide.Goals.{After-difference-place}
 

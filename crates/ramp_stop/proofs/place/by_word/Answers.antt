@@ -1,7 +1,6 @@
 -- `by_word`: every number is a word long, and the quotient is the place raised.
 use mathlib.Core.Path.{◌≡◌, ap, ◌∙◌}
 use Prim.Native.Nat.{◌+◌, ◌*◌, ◌-◌, ◌/◌, ◌≤◌, ◌<◌}
-use borrow.Author.Rules.{rules}
 use native.Mathlib.Omega.{arith}
 use Rattle.exact.specs.Fraction.{raised}
 use Rattle.ramp_motion.specs.Plan.{cubes}

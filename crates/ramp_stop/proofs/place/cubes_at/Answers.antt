@@ -1,5 +1,4 @@
 -- `cubes_at`: the cubes of times up to the longest fit, and the later one is the greater.
-use borrow.Author.Rules.{rules}
 use native.Mathlib.Omega.{arith}
 use Rattle.ramp_stop.proofs.Bounds.{Times, times-fit, cubes-from}
 use Rattle.ramp_stop.proofs.place.cubes_at.Goals as goal

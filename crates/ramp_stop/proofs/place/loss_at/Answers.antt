@@ -1,11 +1,9 @@
 -- `loss_at`: both products and their sum fit up to the longest time.
-use mathlib.Core.Path.{◌≡◌, ◌∙◌}
+use mathlib.Core.Path.{◌≡◌}
 use Prim.Native.Nat.{◌+◌}
-use borrow.Author.Rules.{rules}
-use native.Mathlib.Omega.{arith}
 use Rattle.wide.specs.Value.{value_of}
 use Rattle.ramp_motion.specs.Plan.{loss}
-use Rattle.ramp_stop.proofs.Bounds.{tested, loss-fits}
+use Rattle.ramp_stop.proofs.Bounds.{loss-fits}
 use Rattle.ramp_stop.proofs.place.loss_at.Goals as goal
 use Rattle.ramp_stop.proofs.place.loss_at.Goals.{After-product-brake}
 

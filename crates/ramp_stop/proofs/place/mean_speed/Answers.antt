@@ -1,7 +1,4 @@
 -- `mean_speed`: 2 tr divides the sum, and the sums fit.
-use borrow.Author.Rules.{rules}
-use native.Mathlib.Omega.{arith}
-use Rattle.ramp_stop.proofs.Bounds.{Tested, tested}
 use Rattle.ramp_stop.proofs.Word.{slope-less, mean-is}
 use Rattle.ramp_stop.proofs.place.mean_speed.Goals as goal
 

@@ -1,7 +1,6 @@
 -- `product_over`: the two parts make the quotient lowered, and each is a word long.
-use borrow.Author.Rules.{rules}
 use native.Mathlib.Omega.{arith}
-use Rattle.ramp_stop.proofs.Word.{share-below, share-above, share-fits, rest-fits}
+use Rattle.ramp_stop.proofs.Word.{share-below, share-above, share-fits}
 use Rattle.ramp_stop.proofs.place.product_over.Goals as goal
 
 pub overflow_mul-result : goal.overflow_mul-result

@@ -1,7 +1,5 @@
 -- `forward`: every product fits up to the longest time, and the test is that of the speed.
-use mathlib.Core.Path.{refl}
 use Prim.Native.Nat.{◌*◌, ◌≤◌}
-use borrow.Author.Rules.{rules}
 use native.Mathlib.Omega.{arith}
 use Rattle.ramp_stop.proofs.Bounds.{Tested, tested, brake-way}
 use Rattle.ramp_stop.proofs.search.forward.Goals as goal

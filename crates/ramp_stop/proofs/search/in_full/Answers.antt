@@ -1,7 +1,4 @@
 -- `in_full`: the quotient is the moment, and the sums fit a word.
-use borrow.Author.Rules.{rules}
-use native.Mathlib.Omega.{arith}
-use Rattle.ramp_stop.proofs.Bounds.{Evenly, even}
 use Rattle.ramp_stop.proofs.Rolling as rolling
 use Rattle.ramp_stop.proofs.search.in_full.Goals as goal
 

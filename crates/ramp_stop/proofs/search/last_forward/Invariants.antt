@@ -1,9 +1,6 @@
 -- `last_forward`: a quotient under full braking; before it the stop stays between low and high, which halving brings together.
-use mathlib.Core.Path.{sym, ◌∙◌}
 use Prim.Native.Nat.{◌-◌}
-use borrow.Author.Tests.{leb-true, leb-false}
-use native.Mathlib.Omega.{arith}
-use Rattle.ramp_stop.proofs.Rolling.{Between, begun, turned}
+use Rattle.ramp_stop.proofs.Rolling.{Between}
 use Rattle.ramp_stop.proofs.search.last_forward.Given as goal
 
 abbrev pub invariant-loop-high : goal.invariant-loop-high

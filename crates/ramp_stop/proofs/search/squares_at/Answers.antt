@@ -1,7 +1,5 @@
 -- `squares_at`: the squares of times up to the longest fit, and the later one is the greater.
-use borrow.Author.Rules.{rules}
-use native.Mathlib.Omega.{arith}
-use Rattle.ramp_stop.proofs.Bounds.{Times, times-fit, squares-from}
+use Rattle.ramp_stop.proofs.Bounds.{squares-from}
 use Rattle.ramp_stop.proofs.search.squares_at.Goals as goal
 
 pub returns : goal.returns
