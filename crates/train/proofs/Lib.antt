@@ -1,4 +1,7 @@
 pub mod Refusals
 pub mod Spans
+pub mod Settling
+pub mod Fives
+pub mod Spanned
 pub mod Judging
 pub mod Lending

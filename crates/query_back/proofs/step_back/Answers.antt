@@ -1,11 +1,9 @@
 -- `step_back`: the length's refusal, the sheet's, else a step of the walk to the tail.
-use borrow.Author.Rules.{rules}
 use mathlib.Core.Path.{◌≡◌, ap, subst, ◌∙◌}
 use native.Mathlib.Omega.{arith}
 use Prim.Native.Nat.{ℕ}
 use Rattle.train.specs.declared.Metre.{Metre}
 use Rattle.sheet.specs.Sheet.{line_of}
-use Rattle.sheet.proofs.Kept.{headed-of}
 use Rattle.sheet_lookup.specs.Counts.{IsSignal}
 use Rattle.sheet_walk.specs.Back.{back_on, Steps}
 use Rattle.query_way.specs.Way.{tail_of}

@@ -1,5 +1,4 @@
 -- `release::speed`: no overlap, or too weak along it, or the climb.
-use borrow.Author.Rules.{rules}
 use mathlib.Core.Path.{◌∙◌}
 use native.Mathlib.Omega.{arith}
 use Rattle.ramp.specs.declared.Begun.TheVariants.{Refused}

@@ -1,5 +1,4 @@
 -- `stops_within`: the stop of the plan from v is the ramp's, and it is at most the overlap.
-use borrow.Author.Rules.{rules}
 use mathlib.Core.Path.{ap}
 use Prim.Native.Nat.{◌*◌}
 use lib.Dec.{leb}

@@ -1,11 +1,6 @@
 -- `surely_stopping`: every speed up to low is sure, and halving brings high down to the next.
 use mathlib.Core.Path.{sym, ◌∙◌}
-use Prim.Native.Nat.{◌-◌, ◌≤◌, ◌<◌}
 use native.Mathlib.Omega.{arith}
-use Rattle.query_climb.specs.Sure.{Sure}
-use Rattle.query_climb.proofs.Surely.{sure-of-none}
-use Rattle.query_release.specs.Release.{stops_within}
-use Rattle.query_release.specs.Find.{Each}
 use Rattle.query_release.proofs.Surely.{sure-of}
 use Rattle.query_release.proofs.surely_stopping.Goals as goal
 
