@@ -2,14 +2,14 @@
 // Takes: `sheet`, `sheet_fields`, `query`. Gives: a program.
 #![tactic(auto)]
 
-ghost use Rattle.std.specs.Prelude.{◌≡◌, true};
+ghost use Rattle.std.specs.Prelude.{◌≡◌, ◌≤◌, true, length, IfOk};
 ghost use Rattle.train.specs.Coefficients.{first};
 ghost use Rattle.sheet.specs.Sheet.{accepted};
 ghost use Rattle.query.specs.Answer.{QueryAnswers};
 ghost use Rattle.approach_sheet.specs.Example.{example_train};
 
-use libc::{STDIN_FILENO, STDOUT_FILENO};
 use query::Answer;
+use std::io::{self, Read};
 use train::{BrakeType, Kmh, Metre, Train};
 
 // A passenger train with its electropneumatic brake working.
@@ -34,65 +34,77 @@ fn answer(s: &[u8], signal: u32) -> Answer
 }
 
 // A space and a number.
-fn print_field(n: u32) {
-    io::write_all(STDOUT_FILENO, b" ");
-    io::print_decimal(STDOUT_FILENO, n as u64);
+fn print_field(rt: &impl Print, n: u32) -> io::Result<()> {
+    print!(rt; " {n}")
 }
 
 // What an accepted answer has behind the signal's number.
-fn print_accepted(a: Answer) {
+fn print_accepted(rt: &impl Print, a: Answer) -> io::Result<()> {
     let release = a.release;
     let permitted = a.permitted;
     let w = a.w;
     let sbi = a.sbi;
     let ebi = a.ebi;
-    print_field(release.0);
-    print_field(permitted.0);
+    print_field(rt, release.0)?;
+    print_field(rt, permitted.0)?;
     if a.mark == 1 {
-        io::write_all(STDOUT_FILENO, b" curve");
+        print!(rt; " curve")?;
     } else {
-        io::write_all(STDOUT_FILENO, b" release");
+        print!(rt; " release")?;
     }
-    print_field(w.0);
-    print_field(sbi.0);
-    print_field(ebi.0);
+    print_field(rt, w.0)?;
+    print_field(rt, sbi.0)?;
+    print_field(rt, ebi.0)
 }
 
 // A signal's line.
-fn print_line(signal: u32, a: Answer) {
-    io::print_decimal(STDOUT_FILENO, signal as u64);
+fn print_line(rt: &impl Print, signal: u32, a: Answer) -> io::Result<()> {
+    print!(rt; "{signal}")?;
     if a.refusal > 0 {
-        io::write_all(STDOUT_FILENO, b" refused");
-        print_field(a.refusal);
+        print!(rt; " refused")?;
+        print_field(rt, a.refusal)?;
     } else {
-        print_accepted(a);
+        print_accepted(rt, a)?;
     }
-    io::write_all(STDOUT_FILENO, b"\n");
+    println!(rt; "")
 }
 
 // A line for each signal of an accepted sheet.
-fn print_signals(s: &[u8])
+fn print_signals(rt: &impl Print, s: &[u8]) -> io::Result<()>
     requires { accepted s.now ≡ true }
 {
-    let count = sheet_fields::signals(s);
-    let mut k: u32 = 0;
-    while k < count {
-        print_line(k, answer(s, k));
-        k += 1;
+    for k in 0..sheet_fields::signals(s) {
+        print_line(rt, k, answer(s, k))?;
     }
+    Ok(())
 }
 
-fn print_sheet(s: &[u8]) {
+fn print_sheet(rt: &impl Print, s: &[u8]) -> io::Result<()> {
     if sheet::check::accepts(s) {
-        print_signals(s);
+        print_signals(rt, s)
     } else {
-        io::write_all(STDOUT_FILENO, b"refused 7\n");
+        println!(rt; "refused 7")
     }
 }
 
-fn main() {
+// Reads until the buffer is full or the input ends, and returns how many bytes that gave: a pipe may give fewer at a time.
+fn read_full<R: Read>(input: &mut R, buf: &mut [u8]) -> io::Result<usize>
+    ensures { IfOk result (λ n. n ≤ length buf.new) }
+{
+    let mut done = 0;
+    while done < buf.len() {
+        let n = input.read(&mut buf[done..])?;
+        if n == 0 {
+            break;
+        }
+        done += n;
+    }
+    Ok(done)
+}
+
+fn main(rt: HostRuntime) -> io::Result<()> {
     // the largest sheet, and a byte more for one that is too long
     let mut lent = [0u8; 3477];
-    let n = io::read_full(STDIN_FILENO, &mut lent);
-    print_sheet(&lent[..n]);
+    let n = read_full(&mut rt.stdin(), &mut lent)?;
+    print_sheet(&rt, &lent[..n])
 }

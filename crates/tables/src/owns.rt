@@ -1,6 +1,6 @@
 // Lines of every operation with coefficients of a train's own. Document 02, Card 5.
 use super::{grid, models, sheets, text};
-use libc::STDOUT_FILENO;
+use std::io::{self, Write};
 use step_curve::Curve;
 use train::{Coefficients, Inertia, Kmh, Metre, Signed, Train};
 
@@ -104,53 +104,53 @@ fn train_to(top: u32) -> Train {
     grid::train(2, 100, 600, top)
 }
 
-pub fn own_step_line(k: usize) {
+pub fn own_step_line(out: &mut impl Write, k: usize) -> io::Result<()> {
     let v = SPEEDS[k % 5];
     let v0 = TARGETS[k % 5];
     let i = GRADIENTS[k / 5 % 6];
     let own = set(k / 30);
     let d = step::step(own, train_to(330), Kmh(v), Kmh(v0), i);
-    io::write_all(STDOUT_FILENO, b"own_step");
-    text::coefficients(own);
-    text::field(v);
-    text::field(v0);
-    text::gradient(i);
-    text::equals();
-    models::distances(d);
-    text::end();
+    out.write_all(b"own_step")?;
+    text::coefficients(out, own)?;
+    text::field(out, v)?;
+    text::field(out, v0)?;
+    text::gradient(out, i)?;
+    text::equals(out)?;
+    models::distances(out, d)?;
+    text::end(out)
 }
 
 // A row of P from 60 km/h to 160. What it does not need of the lent list stays as it was, 0.
-pub fn own_row_line(k: usize) {
+pub fn own_row_line(out: &mut impl Write, k: usize) -> io::Result<()> {
     let i = ROW_GRADIENTS[k % 2];
     let own = set(k / 2);
     let mut row = [0u32; 161];
     let written = step_row::row(Curve::P, own, train_to(160), Kmh(60), i, &mut row);
-    io::write_all(STDOUT_FILENO, b"own_row");
-    text::coefficients(own);
-    text::field(60);
-    text::gradient(i);
-    text::equals();
-    text::field(written.refusal);
-    text::field(written.length);
-    models::places(&row);
-    text::end();
+    out.write_all(b"own_row")?;
+    text::coefficients(out, own)?;
+    text::field(out, 60)?;
+    text::gradient(out, i)?;
+    text::equals(out)?;
+    text::field(out, written.refusal)?;
+    text::field(out, written.length)?;
+    models::places(out, &row)?;
+    text::end(out)
 }
 
 // Of the sets from 14 on, which differ in what the ramp takes of them.
-pub fn own_ramp_line(k: usize) {
+pub fn own_ramp_line(out: &mut impl Write, k: usize) -> io::Result<()> {
     let v = CREEPS[k % 3];
     let i = GRADIENTS[k / 3 % 6];
     let own = set(14 + k / 18 % 11);
     let inertia = own.inertia;
     let stop = ramp::ramp(100, i, Kmh(v), 200, 400, inertia);
-    io::write_all(STDOUT_FILENO, b"own_ramp");
-    text::inertia(inertia);
-    text::gradient(i);
-    text::field(v);
-    text::equals();
-    models::stop(stop);
-    text::end();
+    out.write_all(b"own_ramp")?;
+    text::inertia(out, inertia)?;
+    text::gradient(out, i)?;
+    text::field(out, v)?;
+    text::equals(out)?;
+    models::stop(out, stop)?;
+    text::end(out)
 }
 
 // One stretch and one signal, 32 bytes.
@@ -162,7 +162,7 @@ fn write(gradient: i16, overlap: u16, lent: &mut [u8]) {
     sheet_writer::write(&starts, &gradients, &places, &overlaps, Metre(6000), lent);
 }
 
-pub fn own_query_line(k: usize) {
+pub fn own_query_line(out: &mut impl Write, k: usize) -> io::Result<()> {
     let head = HEADS[k % 2];
     let overlap = OVERLAPS[k / 2 % 2];
     let gradient = QUERY_GRADIENTS[k / 4 % 4];
@@ -170,7 +170,7 @@ pub fn own_query_line(k: usize) {
     let mut lent = [0u8; 32];
     write(gradient, overlap, &mut lent);
     let answer = query::query(own, train_to(330), 200, 400, &lent, 0, Metre(head));
-    io::write_all(STDOUT_FILENO, b"own_query");
-    text::coefficients(own);
-    sheets::query_rest(gradient, overlap, head, answer);
+    out.write_all(b"own_query")?;
+    text::coefficients(out, own)?;
+    sheets::query_rest(out, gradient, overlap, head, answer)
 }

@@ -1,8 +1,8 @@
 // Lines of sheets and of approach queries on them.
 use super::{grid, text};
-use libc::STDOUT_FILENO;
 use query::Answer;
 use sheet_mark::Mark;
+use std::io::{self, Write};
 use train::{Metre, Written};
 
 // What goes round in the sheet's second stretch and second signal, and in its line end; some of it breaks a rule.
@@ -36,46 +36,46 @@ pub fn write(
     sheet_writer::write(&starts, &gradients, &places, &overlaps, Metre(end), lent)
 }
 
-fn stretch(s: &[u8], number: u32) {
+fn stretch(out: &mut impl Write, s: &[u8], number: u32) -> io::Result<()> {
     let stretch = sheet_lookup::read_stretch(s, number);
     let start = stretch.start;
-    text::field(stretch.refusal);
-    text::field(start.0);
-    text::gradient(stretch.gradient);
+    text::field(out, stretch.refusal)?;
+    text::field(out, start.0)?;
+    text::gradient(out, stretch.gradient)
 }
 
-fn signal(s: &[u8], number: u32) {
+fn signal(out: &mut impl Write, s: &[u8], number: u32) -> io::Result<()> {
     let signal = sheet_lookup::read_signal(s, number);
     let place = signal.place;
     let overlap = signal.overlap;
-    text::field(signal.refusal);
-    text::field(place.0);
-    text::field(overlap.0);
+    text::field(out, signal.refusal)?;
+    text::field(out, place.0)?;
+    text::field(out, overlap.0)
 }
 
-fn moved(s: &[u8], mark: Mark) {
+fn moved(out: &mut impl Write, s: &[u8], mark: Mark) -> io::Result<()> {
     let moved = mark.moved(s);
     let start = moved.start;
     let after = moved.mark;
-    text::field(moved.refusal);
-    text::field(moved.end);
-    text::field(start.0);
-    text::gradient(moved.gradient);
-    text::field(after.next);
+    text::field(out, moved.refusal)?;
+    text::field(out, moved.end)?;
+    text::field(out, start.0)?;
+    text::gradient(out, moved.gradient)?;
+    text::field(out, after.next)
 }
 
 // What the reads answer: a stretch and a signal of that number, and the move of a mark before that stretch.
-fn reads(s: &[u8], number: u32) {
-    text::and();
-    stretch(s, number);
-    text::and();
-    signal(s, number);
-    text::and();
-    moved(s, Mark { next: number });
+fn reads(out: &mut impl Write, s: &[u8], number: u32) -> io::Result<()> {
+    text::and(out)?;
+    stretch(out, s, number)?;
+    text::and(out)?;
+    signal(out, s, number)?;
+    text::and(out)?;
+    moved(out, s, Mark { next: number })
 }
 
 // Where the writer refuses, the reads find zeros.
-pub fn sheet_line(k: usize) {
+pub fn sheet_line(out: &mut impl Write, k: usize) -> io::Result<()> {
     let number = (k % 9) as u32;
     let start = STARTS[k / 9 % 4];
     let gradient = GRADIENTS[k / 36 % 5];
@@ -84,53 +84,64 @@ pub fn sheet_line(k: usize) {
     let end = ENDS[k / 2160 % 2];
     let mut lent = [0u8; 92];
     let written = write(start, gradient, place, overlap, end, &mut lent);
-    io::write_all(STDOUT_FILENO, b"sheet");
-    text::field(start);
-    text::short_gradient(gradient);
-    text::field(place);
-    text::short_field(overlap);
-    text::field(end);
-    text::field(number);
-    text::equals();
-    text::field(written.refusal);
-    text::field(written.length);
-    reads(&lent, number);
-    text::end();
+    out.write_all(b"sheet")?;
+    text::field(out, start)?;
+    text::short_gradient(out, gradient)?;
+    text::field(out, place)?;
+    text::short_field(out, overlap)?;
+    text::field(out, end)?;
+    text::field(out, number)?;
+    text::equals(out)?;
+    text::field(out, written.refusal)?;
+    text::field(out, written.length)?;
+    reads(out, &lent, number)?;
+    text::end(out)
 }
 
-fn answer_fields(a: Answer) {
+fn answer_fields(out: &mut impl Write, a: Answer) -> io::Result<()> {
     let release = a.release;
     let permitted = a.permitted;
     let w = a.w;
     let sbi = a.sbi;
     let ebi = a.ebi;
-    text::field(a.refusal);
-    text::field(release.0);
-    text::field(permitted.0);
-    text::field(a.mark);
-    text::field(w.0);
-    text::field(sbi.0);
-    text::field(ebi.0);
-    text::field(a.overlap_stretch);
-    text::field(a.ahead_stretch);
+    text::field(out, a.refusal)?;
+    text::field(out, release.0)?;
+    text::field(out, permitted.0)?;
+    text::field(out, a.mark)?;
+    text::field(out, w.0)?;
+    text::field(out, sbi.0)?;
+    text::field(out, ebi.0)?;
+    text::field(out, a.overlap_stretch)?;
+    text::field(out, a.ahead_stretch)
 }
 
 // The rest of the line of a query about one signal: of any, and with a stretch's gradient before it.
-pub fn signal_rest(overlap: u16, head: u32, answer: Answer) {
-    text::short_field(overlap);
-    text::field(head);
-    text::equals();
-    answer_fields(answer);
-    text::end();
+pub fn signal_rest(
+    out: &mut impl Write,
+    overlap: u16,
+    head: u32,
+    answer: Answer,
+) -> io::Result<()> {
+    text::short_field(out, overlap)?;
+    text::field(out, head)?;
+    text::equals(out)?;
+    answer_fields(out, answer)?;
+    text::end(out)
 }
 
-pub fn query_rest(gradient: i16, overlap: u16, head: u32, answer: Answer) {
-    text::short_gradient(gradient);
-    signal_rest(overlap, head, answer);
+pub fn query_rest(
+    out: &mut impl Write,
+    gradient: i16,
+    overlap: u16,
+    head: u32,
+    answer: Answer,
+) -> io::Result<()> {
+    text::short_gradient(out, gradient)?;
+    signal_rest(out, overlap, head, answer)
 }
 
 // The second stretch from 300 m, the second signal at 700 m, the line end at 6,000 m.
-pub fn query_line(k: usize) {
+pub fn query_line(out: &mut impl Write, k: usize) -> io::Result<()> {
     let signal = (k % 5) as u32;
     let head = HEADS[k / 5 % 4];
     let gradient = GRADIENTS[1 + k / 20 % 3];
@@ -149,15 +160,15 @@ pub fn query_line(k: usize) {
         signal,
         Metre(head),
     );
-    io::write_all(STDOUT_FILENO, b"query");
-    text::train(train);
-    text::field(tm);
-    text::field(tr);
-    text::short_gradient(gradient);
-    text::short_field(overlap);
-    text::field(signal);
-    text::field(head);
-    text::equals();
-    answer_fields(answer);
-    text::end();
+    out.write_all(b"query")?;
+    text::train(out, train)?;
+    text::field(out, tm)?;
+    text::field(out, tr)?;
+    text::short_gradient(out, gradient)?;
+    text::short_field(out, overlap)?;
+    text::field(out, signal)?;
+    text::field(out, head)?;
+    text::equals(out)?;
+    answer_fields(out, answer)?;
+    text::end(out)
 }

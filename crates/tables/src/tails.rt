@@ -1,6 +1,6 @@
 // Lines of approach queries whose tails are about a stretch's start. Document 02, Card 2.
 use super::{grid, sheets, text};
-use libc::STDOUT_FILENO;
+use std::io::{self, Write};
 use train::Metre;
 
 // The last is refused.
@@ -37,7 +37,7 @@ fn write(gradient: i16, overlap: u16, head: u32, lent: &mut [u8]) {
     sheet_writer::write(&starts, &gradients, &places, &overlaps, Metre(6000), lent);
 }
 
-pub fn tail_line(k: usize) {
+pub fn tail_line(out: &mut impl Write, k: usize) -> io::Result<()> {
     let overlap = OVERLAPS[k / 14 % 2];
     let gradient = GRADIENTS[k / 28 % 4];
     let length = LENGTHS[k / 112 % 5];
@@ -54,7 +54,7 @@ pub fn tail_line(k: usize) {
         0,
         Metre(head),
     );
-    io::write_all(STDOUT_FILENO, b"tail");
-    text::field(length);
-    sheets::query_rest(gradient, overlap, head, answer);
+    out.write_all(b"tail")?;
+    text::field(out, length)?;
+    sheets::query_rest(out, gradient, overlap, head, answer)
 }

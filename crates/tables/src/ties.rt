@@ -1,6 +1,6 @@
 // Lines of approach queries and of steps on a line whose stretches often have equal gradients. Document 02, Card 4.
 use super::{grid, sheets, text, walks};
-use libc::STDOUT_FILENO;
+use std::io::{self, Write};
 use train::Metre;
 
 // The last is refused.
@@ -24,14 +24,14 @@ fn write(i: i16, j: i16, k: i16, overlap: u16, lent: &mut [u8]) {
 }
 
 // The table's name was printed: the length and the line's gradients follow.
-fn begin(length: u32, i: i16, j: i16, k: i16) {
-    text::field(length);
-    text::short_gradient(i);
-    text::short_gradient(j);
-    text::short_gradient(k);
+fn begin(out: &mut impl Write, length: u32, i: i16, j: i16, k: i16) -> io::Result<()> {
+    text::field(out, length)?;
+    text::short_gradient(out, i)?;
+    text::short_gradient(out, j)?;
+    text::short_gradient(out, k)
 }
 
-pub fn tie_line(n: usize) {
+pub fn tie_line(out: &mut impl Write, n: usize) -> io::Result<()> {
     let head = HEADS[n % 5];
     let overlap = OVERLAPS[n / 5 % 3];
     let k = GRADIENTS[n / 15 % 2];
@@ -49,12 +49,12 @@ pub fn tie_line(n: usize) {
         0,
         Metre(head),
     );
-    io::write_all(STDOUT_FILENO, b"tie");
-    begin(length, i, j, k);
-    sheets::signal_rest(overlap, head, answer);
+    out.write_all(b"tie")?;
+    begin(out, length, i, j, k)?;
+    sheets::signal_rest(out, overlap, head, answer)
 }
 
-pub fn tie_back_line(n: usize) {
+pub fn tie_back_line(out: &mut impl Write, n: usize) -> io::Result<()> {
     let step = (n % 4) as u32;
     let head = HEADS[n / 4 % 4];
     let k = GRADIENTS[n / 16 % 2];
@@ -63,11 +63,11 @@ pub fn tie_back_line(n: usize) {
     let length = LENGTHS[n / 128 % 4];
     let mut lent = [0u8; 50];
     write(i, j, k, 0, &mut lent);
-    io::write_all(STDOUT_FILENO, b"tie_back");
-    begin(length, i, j, k);
-    text::field(head);
-    text::field(step);
-    text::equals();
-    walks::back(&lent, 0, head, length, step);
-    text::end();
+    out.write_all(b"tie_back")?;
+    begin(out, length, i, j, k)?;
+    text::field(out, head)?;
+    text::field(out, step)?;
+    text::equals(out)?;
+    walks::back(out, &lent, 0, head, length, step)?;
+    text::end(out)
 }

@@ -1,6 +1,6 @@
 // Lines of steps from a signal back towards a train's tail. Document 02, Cards 3 and 4.
 use super::{sheets, text};
-use libc::STDOUT_FILENO;
+use std::io::{self, Write};
 use train::Metre;
 
 // Of the sheet's second stretch.
@@ -32,17 +32,24 @@ const HEADS: [u32; 42] = [
 
 const STEPS: [u32; 10] = [0, 1, 2, 3, 4, 5, 6, 7, 65536, 4294967295];
 
-pub fn back(s: &[u8], signal: u32, head: u32, length: u32, step: u32) {
+pub fn back(
+    out: &mut impl Write,
+    s: &[u8],
+    signal: u32,
+    head: u32,
+    length: u32,
+    step: u32,
+) -> io::Result<()> {
     let answer = query_back::step_back(s, signal, Metre(head), Metre(length), step);
-    text::field(answer.refusal);
-    text::field(answer.end);
-    text::field(answer.stretch);
-    text::gradient(answer.gradient);
-    text::gradient(answer.least);
-    text::field(answer.least_stretch);
+    text::field(out, answer.refusal)?;
+    text::field(out, answer.end)?;
+    text::field(out, answer.stretch)?;
+    text::gradient(out, answer.gradient)?;
+    text::gradient(out, answer.least)?;
+    text::field(out, answer.least_stretch)
 }
 
-pub fn back_line(k: usize) {
+pub fn back_line(out: &mut impl Write, k: usize) -> io::Result<()> {
     let walk = k / 20 % 42;
     let step = STEPS[k % 10];
     let gradient = GRADIENTS[k / 10 % 2];
@@ -52,14 +59,14 @@ pub fn back_line(k: usize) {
     let head = HEADS[walk];
     let mut lent = [0u8; 92];
     sheets::write(300, gradient, place, 15, 6000, &mut lent);
-    io::write_all(STDOUT_FILENO, b"back");
-    text::field(place);
-    text::field(length);
-    text::short_gradient(gradient);
-    text::field(signal);
-    text::field(head);
-    text::field(step);
-    text::equals();
-    back(&lent, signal, head, length, step);
-    text::end();
+    out.write_all(b"back")?;
+    text::field(out, place)?;
+    text::field(out, length)?;
+    text::short_gradient(out, gradient)?;
+    text::field(out, signal)?;
+    text::field(out, head)?;
+    text::field(out, step)?;
+    text::equals(out)?;
+    back(out, &lent, signal, head, length, step)?;
+    text::end(out)
 }
