@@ -4,15 +4,14 @@ run := $(cargo) run --release --offline --manifest-path rust/Cargo.toml
 designers := target/staticlib/libapproach.a
 tests := target/staticlib/libwide_calls.a
 # What an archive is made of: its crate and those it rests on; with the folders, whose times tell that a file has gone.
-crates = $(addprefix crates/,$(subst :,,$(shell grep '^$(1):' crates.txt)))
-sources = crates.txt $(shell find $(call crates,$(1)) -name must-fail -prune -o -print)
+crates = $(addprefix crates/,$(subst :,,$(subst staticlib,,$(shell grep '^$(1) staticlib:' crates.txt))))
+sources = crates.txt $(shell find $(call crates,$(1)) \( -name must-fail -o -name out \) -prune -o -print)
 
 help: ## this list
 	@awk -F ':.*## ' '/^[a-z]+:.*## / { printf "make %-10s %s\n", $$1, $$2 }' Makefile
 
 example: ## proves what has changed and prints the approach speeds of document 01's sheet
-	rt check
-	target/bin/approach_sheet < crates/approach_sheet/stdin
+	cd crates/approach_sheet && rt run < stdin
 
 distances: $(designers) ## prints distances, ceilings and ways past a signal of one train
 	$(run) --example distances
@@ -32,7 +31,7 @@ bench: archives ## times the calls beside two peers in Rust
 archives: $(designers) $(tests) ## proves what has changed and gives target/staticlib/libapproach.a
 
 test: archives ## the calls from C and the Rust tests, over what is proved
-	rt check
+	cd crates/approach_sheet && rt run < stdin
 	cc -std=c11 -Wall -Wextra -Werror -Iinclude c/calls.c $(designers) -o target/calls && target/calls
 	$(cargo) test --release --offline --manifest-path rust/Cargo.toml
 
@@ -49,10 +48,12 @@ clean: ## removes what the others make
 	rm -rf target rust/target
 
 $(designers): $(call sources,approach)
-	rt staticlib approach
+	cd crates/approach && rt lib
+	mkdir -p $(@D) && cp crates/approach/out/libapproach.a $@
 
 $(tests): $(call sources,wide_calls)
-	rt staticlib wide_calls
+	cd crates/wide_calls && rt lib
+	mkdir -p $(@D) && cp crates/wide_calls/out/libwide_calls.a $@
 
 .NOTPARALLEL:
 .PHONY: help example distances walk curves grades bench archives test gate ceilings tables clean

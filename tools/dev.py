@@ -1,5 +1,5 @@
 #!/usr/bin/env python3
-"""tools/dev.py CRATE [--allow-holes]: `rt dev CRATE` in few lines, at the repository's root.
+"""tools/dev.py CRATE [--allow-holes]: `rt check` of one crate in few lines, at the repository's root.
 
 Prints errors, functions that are not proved, and the verdict; ends with rt's status. Writes each proof file that the check
 prints and that is not there yet. target/last.txt has the whole output. W=NUMBER in the environment says where a line is
@@ -16,7 +16,7 @@ PROVED = re.compile(r'(fn|struct|enum) .*: proved|rt: .*\(unchanged since it was
 
 
 def checked(crate, words):
-    run = subprocess.run(['rt', 'dev', crate, *words], capture_output=True, text=True)
+    run = subprocess.run(['rt', 'check', *words], cwd=f'crates/{crate}', capture_output=True, text=True)
     os.makedirs('target', exist_ok=True)
     with open('target/last.txt', 'w') as last:
         last.write(run.stdout + run.stderr)
@@ -57,6 +57,7 @@ def main(crate, *words):
             print(line[:width])
     print(f'{time.time() - begun:.1f} s')
     for path, skeleton in files.items():
+        path = os.path.normpath(f'crates/{crate}/{path}')
         if not os.path.exists(path):
             write(path, skeleton)
     return status

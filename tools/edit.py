@@ -1,5 +1,5 @@
 #!/usr/bin/env python3
-"""tools/edit.py CRATE NAME..: tries must-fail edits of a crate one by one with `rt dev`, and prints the first error of each.
+"""tools/edit.py CRATE NAME..: tries must-fail edits of a crate one by one with `rt check`, and prints the first error of each.
 
 `rt must-fail CRATE` tries those of all that the crate rests on, too. The crate has to be proved without them. Each file is put
 back as it was. Ends with status 1 where an edit is not refused. W=NUMBER in the environment says where an error is cut, at 700
@@ -39,9 +39,9 @@ def store(files):
             file.write(text)
 
 
-def checked(crate):
+def checked():
     """Whether the crate is proved, and the first error."""
-    run = subprocess.run(['rt', 'dev', crate], cwd='../..', capture_output=True, text=True)
+    run = subprocess.run(['rt', 'check'], capture_output=True, text=True)
     lines = (run.stdout + run.stderr).split('\n')
     first = next((at for at, line in enumerate(lines) if 'error' in line or 'no proof' in line), len(lines))
     return run.returncode == 0, [line[:WIDTH] for line in lines[first:first + 4]]
@@ -52,7 +52,7 @@ def refused(crate, name):
         before, after = changes(edit)
     try:
         store(after)
-        proved, error = checked(crate)
+        proved, error = checked()
     finally:
         store(before)
     print(f'== {name}: {"NOT REFUSED" if proved else "refused"}', *error, sep='\n')
@@ -64,7 +64,7 @@ def main(crate, *names):
     missing = [name for name in names if not os.path.exists(f'must-fail/{name}.edit')]
     if missing:
         sys.exit(f'crates/{crate}/must-fail has no {missing}')
-    proved, error = checked(crate)
+    proved, error = checked()
     if not proved:
         sys.exit('\n'.join([f'{crate} is not proved as it is:', *error]))
     return all([refused(crate, name) for name in names])
