@@ -1,2 +1,5 @@
+pub mod Asked
+pub mod Method
+pub mod Above
 pub mod Read
 mod Answers
