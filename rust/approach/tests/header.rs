@@ -184,7 +184,7 @@ fn parameters_in_order() {
         PROVED.split("extern \"C\" fn ").skip(1).filter_map(|part| part.split('(').next()).collect();
     assert!(exported.len() >= 12, "{exported:?}");
     for call in exported {
-        let proved = call_of_rust(&crates, "#[no_mangle]\npub extern \"C\" fn ", call);
+        let proved = call_of_rust(&crates, "#[unsafe(no_mangle)]\npub extern \"C\" fn ", call);
         let proved = proved.iter().map(|part| of_crate(&crates, part)).collect();
         assert_same(call, call_of_c(&header, call), call_of_rust(&raw, "    fn ", call), proved);
     }

@@ -19,11 +19,11 @@ pub fn looked_up(table: &[[u32; 3]], permitted: u32) -> Result<[u32; 3], u32> {
     table.get(row).copied().ok_or(3)
 }
 
-/// The library's source file with these numbers, one to a line as `rt fmt` lays it out, the speed beside its first.
+/// The library's source file with these numbers, as `rt fmt` lays it out: a comment ends its line, so the speed stands behind its first
+/// number, and the other two begin the next line.
 pub fn source() -> String {
     let table = stored();
-    let rows = (0..).zip(&table);
-    let lines: String =
-        rows.map(|(v, [w, sbi, ebi])| format!("    {w}, // {v} km/h\n    {sbi},\n    {ebi},\n")).collect();
-    format!("{HEAD}pub const CEILINGS: [u16; {}] = [\n{lines}];\n", 3 * table.len())
+    let rows = (0..).zip(&table).map(|(v, [w, sbi, ebi])| format!("{w}, // {v} km/h\n    {sbi}, {ebi},"));
+    let lines = rows.collect::<Vec<_>>().join(" ");
+    format!("{HEAD}pub const CEILINGS: [u16; {}] = [\n    {lines}\n];\n", 3 * table.len())
 }
