@@ -32,6 +32,7 @@ archives: $(designers) $(tests) ## proves what has changed and gives target/stat
 
 test: archives ## the calls from C and the Rust tests, over what is proved
 	cd crates/approach_sheet && rt run < stdin
+	mkdir -p target/bin && cp crates/approach_sheet/out/approach_sheet target/bin/
 	cc -std=c11 -Wall -Wextra -Werror -Iinclude c/calls.c $(designers) -o target/calls && target/calls
 	$(cargo) test --release --offline --manifest-path rust/Cargo.toml
 

@@ -1,4 +1,4 @@
-//! Links the archive of proved calls on wide numbers, which `rt staticlib wide_calls` writes.
+//! Links the archive of proved calls on wide numbers, which `make archives` makes.
 fn main() {
     let root = std::path::Path::new(env!("CARGO_MANIFEST_DIR")).join("../../target/staticlib");
     println!("cargo:rustc-link-search=native={}", root.display());

@@ -12,7 +12,7 @@ const LARGEST: usize = 20 + 6 * 512 + 6 * 64;
 /// What it prints for bytes on its standard input.
 fn prints(sheet: &[u8]) -> String {
     let mut program =
-        Command::new(PROGRAM).stdin(Stdio::piped()).stdout(Stdio::piped()).spawn().expect("rt check builds it");
+        Command::new(PROGRAM).stdin(Stdio::piped()).stdout(Stdio::piped()).spawn().expect("make test builds it");
     // It may stop reading before the end, at one byte more than the largest sheet has.
     let _ = program.stdin.take().expect("piped").write_all(sheet);
     let output = program.wait_with_output().expect("its output");
