@@ -1,6 +1,6 @@
 -- One stretch more before others, with the least gradient of those: it has the least of all, or what had it still has.
 use mathlib.Core.Path.{◌≡◌, refl, ◌∙◌}
-use mathlib.Core.Bool.{Bool, true, false}
+use mathlib.Core.Bool.{Bool, true, false, cond}
 use mathlib.Core.Logic.{⊎_elim}
 use Prim.Native.Nat.{ℕ, suc, ◌+◌, ◌≤◌}
 use native.Mathlib.Omega.{arith}
@@ -12,12 +12,18 @@ use Rattle.train.specs.Gradient.{gradient_of}
 use Rattle.sheet_line.specs.Line.{Line}
 use Rattle.sheet_span.specs.Least.{slope}
 use Rattle.sheet_span.proofs.Order.{signed-order}
+use Rattle.sheet_walk.specs.declared.Walk.{Walk}
+use Rattle.sheet_walk.specs.Walk.{begun}
 use Rattle.sheet_walk.specs.Back.{LeastOf}
 
 module _ (l : Line) where
   -- where a step on is: the definition's test
   abbrev pub test : ℕ → ℤ → Bool
   test k least = le_z (l.gradient k) least
+
+  -- what the definition makes of either outcome of its test
+  abbrev pub at : ℕ → Walk → Bool → Walk
+  at k w t = cond t (begun l k) (record { stretch = k; gradient = l.gradient k; least = w.least; least_stretch = w.least_stretch })
 
 module _ (l : Line) (b : ℕ) where
   -- one more before others: it has the least, or what had it still has

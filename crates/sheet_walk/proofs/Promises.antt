@@ -50,6 +50,9 @@ module _ {l : Line} {tail signal : ℕ} (a : Spans l tail signal) where
     unfolding back_on
     at-step = rw u.state (simp (le-leb (first + n) last u.within))
 
+    pub answered : (k : ℕ) → n ≡ k → shown w ≡ back_on l tail signal k
+    answered k e = subst (λ (j : ℕ). shown w ≡ back_on l tail signal j) e at-step
+
     pub past_all : (k : ℕ) → n < k → l.start w.stretch ≤ tail → ended ≡ back_on l tail signal k
     unfolding back_on
     past_all k j i = let e = arrived a u i in simp (lt-leb (first + k) last (omega arith))

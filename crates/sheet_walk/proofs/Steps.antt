@@ -12,7 +12,7 @@ use Rattle.sheet_walk.specs.declared.Back.{Back}
 use Rattle.sheet_walk.specs.Walk.{walk_at}
 use Rattle.sheet_walk.specs.Back.{back_on, Steps}
 pub use Rattle.sheet_walk.proofs.Underway.{Spans, Underway, begins, stands, numbered, more, goes_on, arrived}
-pub use Rattle.sheet_walk.proofs.Promises.{all-steps, at-step, past_all}
+pub use Rattle.sheet_walk.proofs.Promises.{all-steps, answered, past_all}
 use Rattle.sheet_walk.proofs.Promises.{on-the-way, over-there}
 
 module _ (s : List ℕ) {tail signal : ℕ} (a : Spans (line_of s) tail signal) (n : ℕ) where

@@ -1,32 +1,28 @@
 -- Where a walk stands after each step: so many stretches before its first, with the least gradient of those between and its lowest number.
 use mathlib.Core.Path.{◌≡◌, refl, subst}
-use mathlib.Core.Bool.{Bool, true, false, cond}
+use mathlib.Core.Bool.{Bool, true, false}
 use Prim.Native.Nat.{ℕ, zero, suc, ◌-◌, ◌≤◌, ◌<◌}
 use native.Mathlib.Omega.{arith}
 use Rattle.train.specs.Gradient.{gradient_of}
 use Rattle.sheet_line.specs.Line.{Line}
 use Rattle.sheet_span.specs.Least.{slope}
 use Rattle.sheet_walk.specs.declared.Walk.{Walk}
-use Rattle.sheet_walk.specs.Walk.{begun, further, walk_at}
+use Rattle.sheet_walk.specs.Walk.{further, walk_at}
 use Rattle.sheet_walk.specs.Back.{LeastOf}
-use Rattle.sheet_walk.proofs.OneMore.{test, takes-over, stays}
+use Rattle.sheet_walk.proofs.OneMore.{test, at, takes-over, stays}
 
 module _ (l : Line) where
-  -- what the definition makes of either outcome of its test
-  abbrev at : ℕ → Walk → Bool → Walk
-  at k w t = cond t (begun l k) (record { stretch = k; gradient = l.gradient k; least = w.least; least_stretch = w.least_stretch })
-
   pub further-stretch : (w : Walk) → (further l w).stretch ≡ w.stretch - 1
   further-stretch w = go (test l (w.stretch - 1) w.least)
     where
-      go : (t : Bool) → (at (w.stretch - 1) w t).stretch ≡ w.stretch - 1
+      go : (t : Bool) → (at l (w.stretch - 1) w t).stretch ≡ w.stretch - 1
       go true = refl
       go false = refl
 
   further-gradient : (w : Walk) → (further l w).gradient ≡ l.gradient (further l w).stretch
   further-gradient w = go (test l (w.stretch - 1) w.least)
     where
-      go : (t : Bool) → (at (w.stretch - 1) w t).gradient ≡ l.gradient (at (w.stretch - 1) w t).stretch
+      go : (t : Bool) → (at l (w.stretch - 1) w t).gradient ≡ l.gradient (at l (w.stretch - 1) w t).stretch
       go true = refl
       go false = refl
 
