@@ -1,1 +1,2 @@
+mod Yes
 mod Meaning

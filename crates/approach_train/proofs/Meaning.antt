@@ -1,9 +1,6 @@
 -- What C's records mean by the definitions: of the two bytes 0 is no and each other yes; the numbers are the train's and its coefficients'.
-use mathlib.Core.Bool.{true, cond}
+use mathlib.Core.Bool.{cond}
 use mathlib.Core.Path.{◌≡◌, refl, ap, sym, subst}
-use Prim.Native.Nat.{ℕ, ◌<◌}
-use native.Mathlib.Omega.{arith}
-use borrow.Author.Tests.{lt-ltb}
 use Rattle.train.specs.declared.BrakeType.TheVariants.{Passenger, Freight}
 use Rattle.train.specs.declared.Train.{Train}
 use Rattle.approach_train.specs.declared.Entered.{Entered}
@@ -13,9 +10,7 @@ use Rattle.train.specs.declared.Coefficients.{Coefficients}
 use Rattle.approach_train.specs.declared.EnteredInertia.{EnteredInertia}
 use Rattle.approach_train.specs.declared.EnteredCoefficients.{EnteredCoefficients}
 use Rattle.approach_train.specs.Coefficients.{inertia_of, coefficients_of, InertiaMeant, CoefficientsMeant}
-
-is-yes : (byte : ℕ) → 0 < byte → yes byte ≡ true
-is-yes byte h = lt-ltb 0 byte (omega arith)
+use Rattle.approach_train.proofs.Yes.{is-yes}
 
 meant : (t : Entered) → Meant t (train_of t)
 meant t =

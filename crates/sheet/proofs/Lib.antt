@@ -1,4 +1,5 @@
 pub mod Parts
+pub mod Headed
 pub mod Kept
 pub mod RoundTrip
 pub mod Writable

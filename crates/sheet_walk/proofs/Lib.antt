@@ -1,2 +1,5 @@
+mod OneMore
 mod Walks
+mod Underway
+mod Promises
 mod Steps

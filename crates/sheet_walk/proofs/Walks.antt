@@ -1,40 +1,28 @@
 -- Where a walk stands after each step: so many stretches before its first, with the least gradient of those between and its lowest number.
-use mathlib.Core.Path.{◌≡◌, refl, subst, ◌∙◌}
-use mathlib.Core.Bool.{Bool, true, false, cond}
-use mathlib.Core.Logic.{⊎_elim}
-use Prim.Native.Nat.{ℕ, zero, suc, ◌+◌, ◌-◌, ◌≤◌, ◌<◌}
+use mathlib.Core.Path.{◌≡◌, refl, subst}
+use mathlib.Core.Bool.{Bool, true, false}
+use Prim.Native.Nat.{ℕ, zero, suc, ◌-◌, ◌≤◌, ◌<◌}
 use native.Mathlib.Omega.{arith}
-use borrow.Author.Tests.{leb-true, leb-false}
-use lib.IntN.{ℤ}
-use lib.Signed.{le_z}
-use Rattle.lists.proofs.Split.{below}
 use Rattle.train.specs.Gradient.{gradient_of}
 use Rattle.sheet_line.specs.Line.{Line}
 use Rattle.sheet_span.specs.Least.{slope}
-use Rattle.sheet_span.proofs.Order.{signed-order}
 use Rattle.sheet_walk.specs.declared.Walk.{Walk}
-use Rattle.sheet_walk.specs.Walk.{begun, further, walk_at}
+use Rattle.sheet_walk.specs.Walk.{further, walk_at}
 use Rattle.sheet_walk.specs.Back.{LeastOf}
+use Rattle.sheet_walk.proofs.OneMore.{test, at, takes-over, stays}
 
 module _ (l : Line) where
-  -- where a step on is: the definition's test, and what it makes of either outcome
-  abbrev test : ℕ → ℤ → Bool
-  test k least = le_z (l.gradient k) least
-
-  abbrev at : ℕ → Walk → Bool → Walk
-  at k w t = cond t (begun l k) (record { stretch = k; gradient = l.gradient k; least = w.least; least_stretch = w.least_stretch })
-
   pub further-stretch : (w : Walk) → (further l w).stretch ≡ w.stretch - 1
-  further-stretch w = go (test (w.stretch - 1) w.least)
+  further-stretch w = go (test l (w.stretch - 1) w.least)
     where
-      go : (t : Bool) → (at (w.stretch - 1) w t).stretch ≡ w.stretch - 1
+      go : (t : Bool) → (at l (w.stretch - 1) w t).stretch ≡ w.stretch - 1
       go true = refl
       go false = refl
 
   further-gradient : (w : Walk) → (further l w).gradient ≡ l.gradient (further l w).stretch
-  further-gradient w = go (test (w.stretch - 1) w.least)
+  further-gradient w = go (test l (w.stretch - 1) w.least)
     where
-      go : (t : Bool) → (at (w.stretch - 1) w t).gradient ≡ l.gradient (at (w.stretch - 1) w t).stretch
+      go : (t : Bool) → (at l (w.stretch - 1) w t).gradient ≡ l.gradient (at l (w.stretch - 1) w t).stretch
       go true = refl
       go false = refl
 
@@ -54,39 +42,6 @@ module _ (l : Line) (b : ℕ) where
   alone =
       record { from = omega arith; to = omega arith; own = refl; none = λ j u v. let e : j ≡ b = omega arith in rw e (omega arith); lowest = λ j u v s. u }
 
-  -- one more before others: it has the least, or what had it still has
-  module _ (a k : ℕ) (g : ℤ) (h : suc a ≤ b) (o : LeastOf l (suc a) b (gradient_of g) k) where
-    takes-over : test l a g ≡ true → LeastOf l a b (slope l a) a
-    takes-over e =
-        let d = leb-true ((slope l a).rise + (gradient_of g).fall) ((gradient_of g).rise + (slope l a).fall) (signed-order (l.gradient a) g ∙ e) in
-        record {
-          from = omega arith;
-          to = omega arith;
-          own = refl;
-          none = λ j u v.
-              ⊎_elim
-              (λ m. let q = o.none j m v in omega arith)
-              (λ m. let e : j ≡ a = omega arith in rw e (omega arith))
-              (below a j);
-          lowest = λ j u v s. u;
-        }
-
-    stays : test l a g ≡ false → LeastOf l a b (gradient_of g) k
-    stays e =
-        let d = leb-false ((slope l a).rise + (gradient_of g).fall) ((gradient_of g).rise + (slope l a).fall) (signed-order (l.gradient a) g ∙ e) in
-        let f = o.from in
-        record {
-          from = omega arith;
-          to = o.to;
-          own = o.own;
-          none = λ j u v. ⊎_elim (λ m. o.none j m v) (λ m. let e : j ≡ a = omega arith in rw e (omega arith)) (below a j);
-          lowest = λ j u v s.
-              ⊎_elim
-              (λ m. o.lowest j m v s)
-              (λ m. absurd (let e : j ≡ a = omega arith in let q = rw e at s in let z = rw q at d in omega arith))
-              (below a j);
-        }
-
   goes : (w : Walk) → 0 < w.stretch → w.stretch ≤ b → LeastOf l w.stretch b (gradient_of w.least) w.least_stretch → LeastOf l (further l w).stretch b (gradient_of (further l w).least) (further l w).least_stretch
   goes w i j o = go (test l (w.stretch - 1) w.least) refl
     where
@@ -97,8 +52,8 @@ module _ (l : Line) (b : ℕ) where
       before = subst (λ (a : ℕ). LeastOf l a b (gradient_of w.least) w.least_stretch) next o
 
       go : (t : Bool) → test l (w.stretch - 1) w.least ≡ t → let v = at l (w.stretch - 1) w t in LeastOf l v.stretch b (gradient_of v.least) v.least_stretch
-      go true e = takes-over (w.stretch - 1) w.least_stretch w.least (omega arith) before e
-      go false e = stays (w.stretch - 1) w.least_stretch w.least (omega arith) before e
+      go true e = takes-over l b (w.stretch - 1) w.least_stretch w.least (omega arith) before e
+      go false e = stays l b (w.stretch - 1) w.least_stretch w.least (omega arith) before e
 
   pub walk-least : (n : ℕ) → n ≤ b → LeastOf l (walk_at l b n).stretch b (gradient_of (walk_at l b n).least) (walk_at l b n).least_stretch
   unfolding walk_at

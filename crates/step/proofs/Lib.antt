@@ -1,1 +1,3 @@
+pub mod Judged
+mod Placed
 pub mod Answers

@@ -6,15 +6,14 @@ use mathlib.Core.Logic.{⊎_elim}
 use Prim.Native.Nat.{ℕ, ◌+◌, ◌-◌, ◌≤◌, ◌<◌}
 use native.Mathlib.Omega.{arith}
 use native.Mathlib.Nat.{le_refl, le-add_right, add-zero}
-use borrow.Author.Tests.{lt-ltb, le-ltb, ltb-true, ltb-false, ne_eqb, le-leb, leb-true, leb-false, not-true, not-false}
+use borrow.Author.Tests.{lt-ltb, le-ltb, ltb-true, ltb-false, ne_eqb, le-leb}
 use lib.Dec.{ltb, lit<}
 use lib.ListN.{length, drop, length-append, length-drop}
 use lib.Seq.{drop_at}
 use Rattle.lists.specs.Counted.{up_to}
 use Rattle.lists.proofs.Split.{below}
-use Rattle.lists.proofs.Holding.{no, refuted, every-at, every_of, every-not}
+use Rattle.lists.proofs.Holding.{no, refuted, every-at, every_of}
 use Rattle.lists.proofs.Places.{same-places, places-length, place_at}
-use Rattle.exact.specs.Fraction.{◌over◌, ◌≤q◌, ◌<q◌}
 use Rattle.train.specs.declared.Kmh.{Kmh}
 use Rattle.train.specs.declared.Train.{Train}
 use Rattle.train.specs.declared.Written.{Written}
@@ -24,7 +23,6 @@ use Rattle.train.specs.declared.Coefficients.{Coefficients}
 use Rattle.train.specs.Refusal.{Refusal, ◌gives◌, first_of}
 use Rattle.train.proofs.Refusals.{Rising, rising-before, first-after, first-before}
 use Rattle.train.specs.Judged.{◌keeps◌}
-use Rattle.train.specs.Lent.{FirstDemand}
 use Rattle.train.proofs.Judging.{Settles, Judges, settled, ◌then◌, no_more, told}
 use Rattle.train.proofs.Lending.{refused-demand}
 use Rattle.step_braking.specs.Braking.{strong}
@@ -39,7 +37,8 @@ use Rattle.step_braking.proofs.Exact.{strong-is}
 use Rattle.step_braking.proofs.Ends.{between}
 use Rattle.step.specs.Answer.{inputs, weak}
 use Rattle.step.proofs.Answers.{inputs-rising, inputs-fit, inputs-then}
-use Rattle.step_row.specs.Answer.{speeds, strong_row, braking, row_refusals, row_brake_rule, row_rules, row_answer, row_after, RowAnswers}
+use Rattle.step_row.proofs.Strong.{brakes-settle}
+use Rattle.step_row.specs.Answer.{speeds, strong_row, row_refusals, row_rules, row_answer, row_after, RowAnswers}
 
 -- the refusals go by the one order, so the first that applies is the answer (the train's `soonest` and `applies`)
 pub row-rising : (k : Coefficients) (t : Train) (g : Gradient) (v0 : Kmh) (room : ℕ) → Rising 1 (row_refusals k t g v0 room)
@@ -50,29 +49,8 @@ room-settles : (t : Train) (v0 : Kmh) (room : ℕ) → Settles (11 keeps (t.top.
 room-settles t v0 room = settled (11 keeps (t.top.0 + 1 ≤ v0.0 + room)) tt (ltb room (speeds t v0)) (λ e. omega (arith, ltb-false room (speeds t v0) e)) (λ e i. omega (arith, i, ltb-true room (speeds t v0) e))
 
 module _ (k : Coefficients) (t : Train) (g : Gradient) (v0 : Kmh) where
-  strong-so : (v : ℕ) → strong k t g (kmh v) v0 ≡ true → (5 over 100) ≤q braking k t g v0 v
-  unfolding strong
-  strong-so v e = leb-true _ _ e
-
-  weak-so : (v : ℕ) → strong k t g (kmh v) v0 ≡ false → braking k t g v0 v <q (5 over 100)
-  unfolding strong
-  weak-so v e = leb-false _ _ e
-
-  abbrev each : ℕ → Bool
-  each i = strong k t g (kmh (v0.0 + i)) v0
-
-  brakes-settle : Settles (row_brake_rule k t g v0) (not (strong_row k t g v0) gives 10 ∷ [])
-  unfolding strong_row
-  brakes-settle =
-      settled (row_brake_rule k t g v0) tt (not (strong_row k t g v0))
-      (λ e v a b.
-      let i : v0.0 + (v - v0.0) ≡ v = omega arith in
-      let s : each (v - v0.0) ≡ true = every-at (speeds t v0) each (not-false _ e) (v - v0.0) (omega arith) in
-      strong-so v (rw i at s))
-      (λ e. let (i, (l, f)) = every-not (speeds t v0) each (not-true _ e) in (v0.0 + i, (le-add_right v0.0 i, (omega arith, weak-so (v0.0 + i) f))))
-
   pub row-judges : (room : ℕ) → Judges (row_rules k t g v0 room) (row_refusals k t g v0 room)
-  row-judges room = inputs-then k t g t.top v0 (brakes-settle then room-settles t v0 room then no_more)
+  row-judges room = inputs-then k t g t.top v0 (brakes-settle k t g v0 then room-settles t v0 room then no_more)
 
 -- a row's answer, the list afterwards, and that each place is exact
 module _ (k : Coefficients) (t : Train) (g : Gradient) (x : Curve) (v0 : Kmh) (lent : List ℕ) where
@@ -165,11 +143,11 @@ module _ (k : Coefficients) (t : Train) (g : Gradient) (x : Curve) (v0 : Kmh) (l
         let s : strong_row k t g v0 ≡ true = every_of n _ (λ i l. sym (strong-is k t g c is (kmh (v0.0 + i)) v0 (le-add_right v0.0 i)) ∙ le-leb _ _ (enough-on i l)) in
         decides z ∙ rw s refl
 
-    pub row-short : length lent < n → Row (record { refusal = 11; length = 0 }) lent
+    pub row-short : (after : List ℕ) → after ≡ lent → length lent < n → Row (record { refusal = 11; length = 0 }) after
     unfolding row_after
-    row-short l =
+    row-short after m l =
         let r : turned ≡ 11 = first-after 0 before short before-rising accepted ∙ rw (lt-ltb (length lent) n l) in
-        refused-row 11 (lit< tt) r lent (rw r) refl
+        refused-row 11 (lit< tt) r after (rw r m) m
 
     abbrev exactly : ℕ → ℕ
     exactly i = (distance k t g (kmh (v0.0 + i)) v0 x).0

@@ -1,2 +1,3 @@
+mod Strong
 pub mod Answers
 pub mod Ordered

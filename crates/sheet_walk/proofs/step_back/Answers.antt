@@ -5,13 +5,12 @@ use mir.Syntax.{w32}
 use mir.ValLaws.{to_z-of_z}
 use native.Mathlib.Numerals.{add-one}
 use native.Mathlib.Omega.{arith}
-use Prim.Native.Nat.{ℕ, ◌+◌, ◌<◌}
+use Prim.Native.Nat.{◌+◌, ◌<◌}
 use Rattle.sheet.specs.Sheet.{line_of}
 use Rattle.sheet.proofs.Kept.{headed-of}
 use Rattle.sheet_span.specs.Least.{stretch_at}
 use Rattle.sheet_walk.specs.declared.Walk.{Walk}
-use Rattle.sheet_walk.specs.Back.{back_on}
-use Rattle.sheet_walk.proofs.Steps.{Spans, Underway, begins, more, goes_on, numbered, at-step, past_all, steps-hold}
+use Rattle.sheet_walk.proofs.Steps.{Spans, Underway, begins, more, goes_on, numbered, answered, past_all, steps-hold}
 use Rattle.sheet_walk.proofs.step_back.Goals as goal
 use Rattle.sheet_walk.proofs.step_back.Goals.{At-loop-taken, Else-not-ahead_of, Start}
 
@@ -38,7 +37,7 @@ pub returns-then-not-ahead_of : goal.returns-then-not-ahead_of
 returns-then-not-ahead_of c =
     let a = spans (goal.at.returns-then-not-ahead_of c).Start in
     let t = ltb-false _ _ (sym c.ahead_of.ensures ∙ c.if-not-ahead_of.true) in
-    let e = c.at_the_end.ensures ∙ past_all a (under (goal.at.returns-then-not-ahead_of c).At-loop-taken) c.args.step c.loop-taken-test.true t in
+    let e = c.at_the_end.ensures ∙ past_all a (under (goal.at.returns-then-not-ahead_of c).At-loop-taken) c.args.step (omega (arith, c.loop-taken-test.true)) t in
     (e, steps-hold _ a _ _ e)
 
 pub onward-walk-requires : goal.onward-walk-requires
@@ -58,5 +57,5 @@ returns c =
     let g = to_z-of_z w32 w.gradient (record { sfits = c.struct_told-1.given.1.0.1 }) in
     let m = to_z-of_z w32 w.least (record { sfits = c.struct_told-1.given.1.1.0.1 }) in
     let n : c.loop-taken.taken ≡ c.args.step = omega (arith, c.loop-taken-test.false, c.loop-taken.invariant.1) in
-    let e = subst (λ (k : ℕ). record { refusal = 0; end = 0; stretch = w.stretch; gradient = w.gradient; least = w.least; least_stretch = w.least_stretch } ≡ back_on (line_of c.args.s.now) c.args.first.0 c.args.last.0 k) n (at-step a (under (goal.at.returns c).At-loop-taken)) in
+    let e = answered a (under (goal.at.returns c).At-loop-taken) c.args.step n in
     simp (g, m) (e, steps-hold _ a _ _ e)

@@ -12,6 +12,7 @@ use Rattle.train.specs.Gradient.{gradient_of}
 use Rattle.train.specs.Refusal.{first_of}
 use Rattle.train.proofs.Refusals.{first-after, first-before}
 use Rattle.step_braking.specs.Plan.{Near}
+use Rattle.step_braking.specs.Agreement.{IsCourse}
 use Rattle.step_braking.specs.Braking.{strong}
 use Rattle.step_braking.proofs.Exact.{strong-is}
 use Rattle.step.specs.Answer.{inputs, weak}
@@ -37,11 +38,11 @@ near c =
 
 -- the test says what the definition says
 strong-says : (c : After-is_strong) → let a = c.args in
-    c.is_strong.result ≡ strong a.k a.train c.gradient_of-g.result a.at a.v0
-strong-says c =
+    IsCourse a.k a.train c.gradient_of-g.result c.course_of-c.result → c.is_strong.result ≡ strong a.k a.train c.gradient_of-g.result a.at a.v0
+strong-says c i =
     let a = c.args in
     c.is_strong.ensures
-    ∙ strong-is a.k a.train c.gradient_of-g.result c.course_of-c.result c.course_of-c.ensures a.at a.v0 (near c.before.before).ahead
+    ∙ strong-is a.k a.train c.gradient_of-g.result c.course_of-c.result i a.at a.v0 (near c.before.before).ahead
 
 -- so refusal 10 decides
 decides : (c : Else-bad-gt0) → let a = c.args in let w = weak a.k a.train c.gradient_of-g.result a.at a.v0 in
@@ -64,14 +65,16 @@ course_of-c-requires c = let f = fits (goal.at.course_of-c-requires c).Else-bad-
 pub returns-then-not-is_strong : goal.returns-then-not-is_strong
 returns-then-not-is_strong c =
     let a = c.args in
-    let e : strong a.k a.train c.gradient_of-g.result a.at a.v0 ≡ false = sym (strong-says (goal.at.returns-then-not-is_strong c).After-is_strong) ∙ c.if-not-is_strong.true in
+    let e : strong a.k a.train c.gradient_of-g.result a.at a.v0 ≡ false = sym (strong-says (goal.at.returns-then-not-is_strong c).After-is_strong c.course_of-c.ensures) ∙ c.if-not-is_strong.true in
     rw (← gradient-is (goal.at.returns-then-not-is_strong c).After-gradient_of-g) (lit< tt, decides (goal.at.returns-then-not-is_strong c).Else-bad-gt0 ∙ rw e)
 
+-- Refusal 10 for the brake is the last of the conditions:
+-- where it does not apply, the course is given.
 pub returns : goal.returns
 returns c =
     let a = c.args in
     let t = c.if-not-is_strong.false in
-    let e : strong a.k a.train c.gradient_of-g.result a.at a.v0 ≡ true = sym (strong-says (goal.at.returns c).After-is_strong) ∙ t in
+    let e : strong a.k a.train c.gradient_of-g.result a.at a.v0 ≡ true = sym (strong-says (goal.at.returns c).After-is_strong c.course_of-c.ensures) ∙ t in
     rw (← gradient-is (goal.at.returns c).After-gradient_of-g)
     (record {
       accepted = decides (goal.at.returns c).Else-bad-gt0 ∙ rw e;

@@ -1,14 +1,9 @@
 -- `fill`: after k turns the first k places are the plan's, and what lies from n on is as it was.
 use Prim.Native.Nat.{◌+◌, ◌-◌, ◌≤◌}
-use mathlib.Core.Path.{◌≡◌, refl, ap, ◌∙◌}
-use native.Mathlib.Omega.{arith}
-use lib.ListN.{length, take, drop, length-set}
-use lib.Seq.{drop-set-lt}
-use borrow.Author.Rules.{rules}
-use Rattle.step_braking.specs.Plan.{Small, Near, Enough}
+use mathlib.Core.Path.{◌≡◌}
+use lib.ListN.{length, take, drop}
 use Rattle.step_curve.specs.Plan.{place_of}
 use Rattle.lists.specs.Counted.{up_to}
-use Rattle.lists.proofs.Places.{longer, filled}
 use Rattle.step_row.proofs.fill.Given as goal
 
 abbrev pub invariant-loop-k : goal.invariant-loop-k

@@ -1,11 +1,9 @@
 -- `row`: a refusal leaves the list; else its first places are the row, and the rest is as it was.
 use borrow.Author.Rules.{rules}
-use borrow.Author.Tests.{leb-true, not-true, not-false}
+use borrow.Author.Tests.{leb-true}
 use mathlib.Core.Path.{◌≡◌, sym, ◌∙◌}
-use mathlib.Core.List.{◌++◌}
 use mir.Syntax.{w32}
 use mir.ValLaws.{to_z-of_z}
-use native.Mathlib.Nat.{le_refl}
 use native.Mathlib.Omega.{arith}
 use Rattle.train.specs.Gradient.{gradient_of}
 use Rattle.train.specs.Refusal.{first_of}
@@ -44,6 +42,10 @@ strong-says c s =
 high : (c : Else-not-is_strong) → let a = c.args in Enough c.in-Ready.c a.train.top.0 a.v0.0
 high c = leb-true _ _ (sym c.is_strong.ensures ∙ c.if-not-is_strong.false)
 
+-- Now the answers, in the order of the code:
+-- too weak at the top speed is refusal 10,
+-- too little room is 11,
+-- and else the places are written.
 pub returns-then-not-is_strong : goal.returns-then-not-is_strong
 returns-then-not-is_strong c =
     let a = c.args in
@@ -53,7 +55,7 @@ pub returns-then-places-out : goal.returns-then-places-out
 returns-then-places-out c =
     let a = c.args in
     let s = ready (goal.at.returns-then-places-out c).In-Ready in
-    row-short a.k a.train (gradient_of a.gradient) a.curve a.v0 a.out.now (passed (goal.at.returns-then-places-out c).In-Ready) s.speeds.ahead c.in-Ready.c s.course s.enough (high (goal.at.returns-then-places-out c).Else-not-is_strong) (omega (arith, c.if-places-out.true))
+    row-short a.k a.train (gradient_of a.gradient) a.curve a.v0 a.out.now (passed (goal.at.returns-then-places-out c).In-Ready) s.speeds.ahead c.in-Ready.c s.course s.enough (high (goal.at.returns-then-places-out c).Else-not-is_strong) _ (search rules) (omega (arith, c.if-places-out.true))
 
 pub fill-requires : goal.fill-requires
 fill-requires c =
