@@ -1,4 +1,5 @@
 mod Moment
+mod Distance
 mod Kept
 pub mod Judging
 pub mod Speeds
