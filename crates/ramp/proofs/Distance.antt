@@ -4,26 +4,22 @@ use mathlib.Core.Path.{◌≡◌, refl, sym, ap}
 use mathlib.Core.List.{[], ◌∷◌}
 use Prim.Native.Nat.{ℕ, ◌+◌, ◌*◌, ◌-◌, ◌^◌, ◌≤◌, ◌<◌}
 use native.Mathlib.Omega.{arith}
-use native.Mathlib.Nat.{mul-pos, le_of_lt, le_refl}
-use lib.Dec.{leb, lit<}
-use Rattle.exact.specs.Fraction.{whole, signed, cross, ◌over◌, ◌+q◌, ◌-q◌, ◌≈q◌}
-use Rattle.exact.proofs.Polynomial.{Expr, num, ◌⊕◌, ◌⊗◌}
-use Rattle.exact.proofs.Certificate.{x0, x1, x2, x3, x4, x5, x6, x7, x8, done, times, cert}
-use Rattle.exact.proofs.Shape.{shape, whole_e, over_e, ◌+e◌, ◌*e◌}
-use Rattle.exact.proofs.Order.{leb-agree}
-use Rattle.exact.proofs.Substitution.{≈q-refl, ≈q-sym, ≈q-trans, becomes, net, +q-cong, *q-cong, ≤q-cong, <q-cong}
+use native.Mathlib.Nat.{mul-pos, le_refl}
+use lib.Dec.{lit<}
+use Rattle.exact.specs.Fraction.{whole}
+use Rattle.exact.proofs.Polynomial.{num, ◌⊕◌, ◌⊗◌}
+use Rattle.exact.proofs.Certificate.{x0, x1, x2, x3, done, times, cert}
+use Rattle.exact.proofs.Shape.{shape, whole_e, ◌*e◌}
+use Rattle.exact.proofs.Substitution.{≈q-refl, ≈q-trans, becomes, net, *q-cong}
 use Rattle.exact.proofs.Raised.{raised-cong, raised-over-le, raised-over-near}
 use Rattle.train.specs.declared.Inertia.{Inertia}
 use Rattle.ramp_motion.specs.declared.Overrun.{Overrun}
 use Rattle.ramp_motion.specs.declared.Plan.{Plan}
-use Rattle.ramp_motion.specs.Motion.{di, dp}
-use Rattle.ramp_motion.specs.Plan.{IsPlan, squares, gain, loss}
-use Rattle.ramp_motion.proofs.Brake.{built, bend}
-use Rattle.ramp_motion.proofs.Furthest.{more, less, finer, Fast, Slow, ahead, furthest-fine}
-use Rattle.ramp_motion.proofs.Phases.{place_is}
+use Rattle.ramp_motion.specs.Plan.{IsPlan, gain, loss}
+use Rattle.ramp_motion.proofs.Furthest.{ahead}
 use Rattle.ramp_plan.specs.Fair.{Small}
 use Rattle.ramp_stop.specs.Stop.{Turns, place_up}
-use Rattle.ramp.specs.Answer.{strong, distance, Promise}
+use Rattle.ramp.specs.Answer.{distance}
 use Rattle.ramp.proofs.Moment.{place_at_lem, moment-is}
 
 -- the millimetres that are answered
