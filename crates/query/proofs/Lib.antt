@@ -1,3 +1,4 @@
+mod Cases
 mod Creep
 mod Marks
 mod Brake
