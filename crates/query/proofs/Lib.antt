@@ -2,6 +2,7 @@ mod Cases
 mod Creep
 mod Marks
 mod Brake
+mod Released
 pub mod Third
 mod Answers
 pub mod Agreement
