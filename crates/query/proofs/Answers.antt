@@ -43,6 +43,7 @@ use Rattle.query.specs.Rules.{TooWeak, input_rules, brake_rules, query_rules}
 use Rattle.query.specs.Begin.{Fit, Starts, answer_at, answer_on}
 use Rattle.query.proofs.Third.{fit-ahead, creeps, kept}
 use Rattle.query.proofs.Brake.{weak-past, weak-ahead}
+pub use Rattle.query.proofs.Cases.{as-permitted, as-released}
 
 -- the refusals go by the one order, so the first that applies is the answer (the train's `soonest` and `applies`)
 pub query-rising : (k : Coefficients) (t : Train) (tm tr : ℕ) (s : List ℕ) (signal head : ℕ) → Rising 1 (query_refusals k t tm tr s signal head)
@@ -50,28 +51,6 @@ query-rising k t tm tr s signal head = (tt, (tt, (tt, (tt, (tt, (tt, (tt, (tt, (
 
 pub times-rising : (tm tr : ℕ) → Rising 1 (time_refusals tm tr)
 times-rising tm tr = (tt, (tt, (tt, tt)))
-
--- what is made of one of two is one of what is made of both
-of_either : {A B : Type 0} (f : A → B) (b : Bool) (x y s : A) → s ≡ cond b x y → f s ≡ cond b (f x) (f y)
-of_either f true x y s e = ap f e
-of_either f false x y s e = ap f e
-
--- the steps of the code: the paper's numbers for each case make the answer
-module _ (k : Coefficients) (t : Train) (g : Gradient) (d : Metre) (n : Governing) (v0 : Kmh) where
-  abbrev permitting : ℕ × ℕ × ℕ → Answer
-  permitting s = cond (eqb s.0 0) (answered n v0 (kmh s.1) s.2) (refused s.0)
-
-  pub as-permitted : (r : Permitted) → Permits k t g v0 d r → permitting (permitted.says_of v0 r) ≡ answer_at k t g d n v0
-  unfolding answer_at
-  as-permitted r e = of_either permitting (strong k t g v0 v0) (0, permitted_of k t g v0 d, mark_of k t g v0 d) (10, 0, 0) _ e
-
-module _ (k : Coefficients) (t : Train) (tm tr : ℕ) (w : Way) (n : Governing) where
-  abbrev releasing : ℕ × ℕ → Answer
-  releasing s = cond (eqb s.0 0) (answer_at k t w.ahead w.distance n (kmh s.1)) (refused s.0)
-
-  pub as-released : (r : Release) → Releases k.inertia (past_at t tm tr w 1) w.overlap t.top r → releasing (says_of r) ≡ answer_on k t tm tr w n
-  unfolding answer_on
-  as-released r h = of_either releasing (weak_past k.inertia (past_at t tm tr w 1) w.overlap) (10, 0) (0, (release k t tm tr w).0) _ h.says
 
 module _ (k : Coefficients) (t : Train) (tm tr : ℕ) (s : List ℕ) (signal head : ℕ) where
   -- what is looked at behind the times, and behind the train

@@ -1,6 +1,8 @@
+mod Cases
 mod Creep
 mod Marks
 mod Brake
+mod Released
 pub mod Third
 mod Answers
 pub mod Agreement

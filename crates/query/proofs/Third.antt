@@ -14,12 +14,13 @@ use Rattle.step_braking.proofs.Coursed.{course}
 use Rattle.query_way.specs.declared.Way.{Way}
 use Rattle.query_release.specs.Release.{weak_past}
 use Rattle.query_permitted.specs.Permitted.{permitted_of, mark_of}
-use Rattle.query.specs.Demand.{past_at, Creeps, Demand}
+use Rattle.query.specs.Demand.{past_at, Demand}
 use Rattle.query.specs.Answer.{release}
 use Rattle.query.specs.Begin.{Fit, FitAhead}
-use Rattle.query.proofs.Creep.{places, low, is-safe, is-tight}
+use Rattle.query.proofs.Creep.{places, low}
 use Rattle.query.proofs.Marks.{distances, is-marked}
 use Rattle.query.proofs.Brake.{both-strong}
+pub use Rattle.query.proofs.Released.{creeps}
 
 module _ (k : Coefficients) (t : Train) (tm tr : ℕ) (w : Way) (f : Fit k t tm tr w) where
   -- what the climb to the permitted speed asks for
@@ -35,17 +36,6 @@ module _ (k : Coefficients) (t : Train) (tm tr : ℕ) (w : Way) (f : Fit k t tm 
         top = ltb-false _ _ n.1.1.1.1.1.0;
       }
 
-  -- the release speed
-  pub creeps : weak_past k.inertia (past_at t tm tr w 1) w.overlap ≡ false → Creeps k t tm tr w (release k t tm tr w).0
-  creeps past =
-      let l = low k t tm tr w f in
-      record {
-        safe = is-safe k t tm tr w f past;
-        tight = is-tight k t tm tr w f past;
-        most = omega arith;
-        top = omega arith;
-      }
-
   module _ (past : weak_past k.inertia (past_at t tm tr w 1) w.overlap ≡ false) (ahead : strong k t w.ahead (release k t tm tr w) (release k t tm tr w) ≡ true) where
     abbrev R : ℕ
     R = (release k t tm tr w).0
@@ -57,7 +47,7 @@ module _ (k : Coefficients) (t : Train) (tm tr : ℕ) (w : Way) (f : Fit k t tm 
         let (c, is) = course k t w.ahead f.within a.weight a.length a.gradient in
         record {
           numbers = record { places = places k t tm tr w f; distances = distances k t tm tr w R c is };
-          creeps = creeps past;
+          creeps = creeps k t tm tr w f past;
           enough = both-strong k t tm tr w past ahead;
           marked = is-marked k t tm tr w R c is ahead a.speeds;
         }

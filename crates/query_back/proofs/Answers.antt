@@ -4,11 +4,11 @@ use mathlib.Core.Bool.{Bool, true, false, cond}
 use mathlib.Core.List.{List}
 use Prim.Native.Nat.{ℕ, ◌+◌, ◌≤◌, ◌<◌}
 use native.Mathlib.Omega.{arith}
-use borrow.Author.Tests.{lt-ltb, le-ltb, ne_eqb}
+use borrow.Author.Tests.{ne_eqb}
 use lib.Dec.{leb}
 use Rattle.train.specs.Refusal.{first_of}
 use Rattle.train.proofs.Refusals.{Rising}
-use Rattle.train.proofs.Judging.{Judges, ◌then◌, length-settles, told}
+use Rattle.train.proofs.Judging.{told}
 use Rattle.train.proofs.Lending.{refused-demand, given-demand}
 use Rattle.sheet.specs.Sheet.{line_of}
 use Rattle.sheet_walk.specs.declared.Back.{Back}
@@ -16,9 +16,10 @@ use Rattle.sheet_span.specs.Least.{stretch_at}
 use Rattle.sheet_walk.specs.Walk.{walk_at}
 use Rattle.sheet_walk.specs.Back.{shown, ended, back_on, Steps}
 use Rattle.query_way.specs.Way.{tail_of}
-use Rattle.query_way.specs.Find.{refusal}
-use Rattle.query_way.proofs.Ways.{tail-behind, way-judges}
-use Rattle.query_back.specs.Answer.{refused, back_refusals, back_rules, back_of, BackAnswers}
+use Rattle.query_way.proofs.Ways.{tail-behind}
+use Rattle.query_back.specs.Answer.{refused, back_refusals, back_of, BackAnswers}
+use Rattle.query_back.proofs.Judging.{back-judges}
+pub use Rattle.query_back.proofs.Judging.{too_long, by-the-sheet}
 
 module _ (s : List ℕ) (signal head length : ℕ) where
   abbrev first : ℕ
@@ -28,16 +29,6 @@ module _ (s : List ℕ) (signal head length : ℕ) where
   pub back-rising : Rising 1 (back_refusals s signal head length)
   back-rising = (tt, (tt, (tt, (tt, tt))))
 
-  back-judges : Judges (back_rules s signal head length) (back_refusals s signal head length)
-  back-judges = length-settles length then way-judges s signal head
-
-  -- which it is
-  pub too_long : 1000 < length → first ≡ 2
-  too_long h = simp (lt-ltb 1000 length h)
-
-  pub by-the-sheet : length ≤ 1000 → first ≡ refusal s signal head
-  by-the-sheet h = simp (le-ltb 1000 length h)
-
   module _ (n : ℕ) where
     pub back-refused : (k : ℕ) → first ≡ k → 0 < k → BackAnswers s signal head length n (refused k) s
     unfolding back_of
@@ -45,7 +36,7 @@ module _ (s : List ℕ) (signal head length : ℕ) where
         record {
           answer = rw (e, ne_eqb k 0 (λ z. omega arith)) refl;
           lent = refused-demand k _ s (refl, (refl, (refl, (refl, (refl, (refl, (refl, tt)))))));
-          spans = (told back-judges (sym e)).1;
+          spans = (told (back-judges s signal head length) (sym e)).1;
           steps = λ z. absurd (let i : k ≡ 0 = z in omega arith);
         }
 
@@ -65,6 +56,6 @@ module _ (s : List ℕ) (signal head length : ℕ) where
         record {
           answer = rw e i;
           lent = rw z (given-demand _ s);
-          spans = (told back-judges (z ∙ sym e)).1;
+          spans = (told (back-judges s signal head length) (z ∙ sym e)).1;
           steps = λ y. (tail_of head length, (tail-behind head length, steps));
         }

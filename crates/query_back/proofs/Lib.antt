@@ -1,3 +1,4 @@
+mod Judging
 mod Answers
 mod Example
 pub mod Ahead

@@ -23,8 +23,9 @@ use Rattle.sheet_lookup.proofs.Read.{read-refusal}
 use Rattle.sheet_span.specs.Least.{slope_at, least_over, governing_over, LeastOver}
 use Rattle.sheet_span.proofs.Points.{same-least}
 use Rattle.sheet_walk.specs.declared.Grade.{Grade}
-use Rattle.query_way.specs.Way.{way_refusals, way_rules, tail_of, past_of, way_of, governing_past, governing_on, Behind, Leads, Agree}
+use Rattle.query_way.specs.Way.{way_refusals, way_rules, tail_of, past_of, way_of, governing_past, governing_on, Leads, Agree}
 use Rattle.query_way.specs.Find.{refusal, GradeOver, Past}
+pub use Rattle.query_way.proofs.Behind.{tail-behind}
 
 -- the least is its stretch's
 pub grade-over : (l : Line) (from to : ℕ) (g : Grade) → Kept l → LeastOver l from to g.gradient g.stretch → GradeOver l from to g
@@ -45,10 +46,6 @@ module _ (s : List ℕ) (k head : ℕ) where
     -- the signal stands on the line, and its overlap ends there
     pub on_line : ((line_of s).place k < (line_of s).end) × ((line_of s).place k + (line_of s).overlap k ≤ (line_of s).end)
     on_line = (headed-of s e).1.signals.each k h
-
--- the definition's tail is where the words beside it say
-pub tail-behind : (place length : ℕ) → Behind place length (tail_of place length)
-tail-behind place length = ⊎_elim (λ h. inr (h, omega arith)) (λ h. inl (omega arith)) (below place length)
 
 -- the governing grade of an overlap
 module _ (l : Line) (place overlap length : ℕ) where

@@ -1,6 +1,5 @@
 -- What the code finds out, refusal by refusal, makes the answer of the definition.
 use mathlib.Core.Path.{◌≡◌, refl, sym, ◌∙◌}
-use mathlib.Core.Bool.{true, false}
 use mathlib.Core.List.{[]}
 use Prim.Native.Nat.{ℕ, ◌<◌}
 use native.Mathlib.Omega.{arith}
@@ -8,46 +7,26 @@ use borrow.Author.Tests.{ne_eqb}
 use Rattle.train.specs.declared.Inertia.{Inertia}
 use Rattle.train.specs.Coefficients.{InertiaWithin}
 use Rattle.train.specs.Refusal.{first_of}
-use Rattle.train.proofs.Refusals.{Rising, rising-before, first-after, first-before}
 use Rattle.train.proofs.Judging.{told}
 use Rattle.train.proofs.Lending.{refused-demand, given-demand}
 use Rattle.ramp_motion.specs.declared.Overrun.{Overrun}
 use Rattle.ramp_motion.specs.declared.Plan.{Plan}
 use Rattle.ramp_plan.specs.Fair.{Fair}
 use Rattle.ramp.specs.declared.Stop.{Stop}
-use Rattle.ramp.specs.Answer.{inputs, strong, weak, ramp_refusals, refused, stop_of, RampAnswers}
+use Rattle.ramp.specs.Answer.{inputs, ramp_refusals, refused, stop_of, RampAnswers}
 use Rattle.ramp.specs.Begin.{IsReady, Stops}
 use Rattle.ramp.proofs.Moment.{moment-is}
 use Rattle.ramp.proofs.Kept.{promised, distance_is}
 use Rattle.ramp.proofs.Judging.{inputs-judge, ramp-judges}
 use Rattle.ramp.proofs.Faster.{outrun}
-
--- the refusals go by the one order, so the first that applies is the answer (the train's `soonest` and `applies`)
-pub ramp-rising : (k : Inertia) (o : Overrun) → Rising 1 (ramp_refusals k o)
-ramp-rising k o = (tt, (tt, (tt, (tt, (tt, (tt, (tt, (tt, (tt, (tt, (tt, (tt, (tt, (tt, (tt, (tt, (tt, tt)))))))))))))))))
+pub use Rattle.ramp.proofs.Deciding.{ramp-rising, by-inputs, by-weakness, by-none}
 
 module _ (k : Inertia) (o : Overrun) where
-  inputs-rising : Rising 1 (inputs k o)
-  inputs-rising = rising-before 1 (inputs k o) (weak k o) (ramp-rising k o)
-
   -- what the inputs keep where none is turned away
   pub inputs-fit : first_of (inputs k o) ≡ 0 → InertiaWithin k × Fair o
   inputs-fit h =
       let (w, (v, (g, (t, (i, u))))) = (inputs-judge k o).judged.accepted h in
       (i, record { weight = w.1.0; gradient = g; v = v.1; tm = t.0; some = t.1.0; tr = t.1.1 })
-
-  pub by-inputs : (n : ℕ) → 0 < n → n ≡ first_of (inputs k o) → first_of (ramp_refusals k o) ≡ n
-  by-inputs n l e = rw e (first-before (inputs k o) (weak k o) (λ z. omega arith))
-
-  module _ (z : first_of (inputs k o) ≡ 0) where
-    decides : first_of (ramp_refusals k o) ≡ first_of (weak k o)
-    decides = first-after 0 (inputs k o) (weak k o) inputs-rising z
-
-    pub by-weakness : strong k o ≡ false → first_of (ramp_refusals k o) ≡ 10
-    by-weakness e = decides ∙ rw e refl
-
-    pub by-none : strong k o ≡ true → first_of (ramp_refusals k o) ≡ 0
-    by-none e = decides ∙ rw e refl
 
   pub ramp-refused : (n : ℕ) → 0 < n → first_of (ramp_refusals k o) ≡ n → RampAnswers k o (refused n)
   unfolding stop_of

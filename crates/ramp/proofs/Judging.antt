@@ -1,15 +1,11 @@
 -- The lists of conditions decide by the rules in words of their own.
 use mathlib.Core.List.{[], ◌∷◌}
-use Prim.Native.Nat.{ℕ, ◌≤◌}
-use Rattle.train.specs.declared.Kmh.{Kmh}
+use Prim.Native.Nat.{ℕ}
 use Rattle.train.specs.declared.Inertia.{Inertia}
-use Rattle.train.specs.Judged.{◌keeps◌}
 use Rattle.train.proofs.Judging.{Settles, Judges, ◌then◌, ◌and◌, no_more, at_least, weight-settles, gradient-settles, inertia-settles, brake-settles}
 use Rattle.ramp_motion.specs.declared.Overrun.{Overrun}
-use Rattle.ramp.specs.Answer.{speed_refusals, time_refusals, times_rule, strong, inputs, input_rules, ramp_refusals, ramp_rules}
-
-speed-settles : (v : Kmh) → Settles (3 keeps ((1 ≤ v.0) × (v.0 ≤ 100))) (speed_refusals v)
-speed-settles v = at_least 3 tt 1 v.0 and at_least 3 tt v.0 100
+use Rattle.ramp.specs.Answer.{time_refusals, times_rule, strong, inputs, input_rules, ramp_refusals, ramp_rules}
+use Rattle.ramp.proofs.Spanned.{speed-settles}
 
 pub times-settles : (tm tr : ℕ) → Settles (times_rule tm tr) (time_refusals tm tr)
 times-settles tm tr = at_least 6 tt tm 2000 and at_least 6 tt 1 tr and at_least 6 tt tr 3000

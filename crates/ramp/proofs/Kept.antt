@@ -1,29 +1,30 @@
 -- The answer of an accepted input is the definition's, and keeps the promise.
-use mathlib.Core.Path.{◌≡◌, refl, sym, ap}
+use mathlib.Core.Path.{◌≡◌, refl, sym}
 use mathlib.Core.List.{[], ◌∷◌}
-use Prim.Native.Nat.{ℕ, ◌+◌, ◌*◌, ◌-◌, ◌^◌, ◌≤◌, ◌<◌}
+use Prim.Native.Nat.{ℕ, ◌+◌, ◌*◌, ◌^◌, ◌≤◌, ◌<◌}
 use native.Mathlib.Omega.{arith}
-use native.Mathlib.Nat.{mul-pos, le_of_lt, le_refl}
+use native.Mathlib.Nat.{mul-pos, le_of_lt}
 use lib.Dec.{leb, lit<}
-use Rattle.exact.specs.Fraction.{whole, signed, cross, ◌over◌, ◌+q◌, ◌-q◌, ◌≈q◌}
+use Rattle.exact.specs.Fraction.{signed, cross, ◌over◌, ◌+q◌, ◌-q◌, ◌≈q◌}
 use Rattle.exact.proofs.Polynomial.{Expr, num, ◌⊕◌, ◌⊗◌}
 use Rattle.exact.proofs.Certificate.{x0, x1, x2, x3, x4, x5, x6, x7, x8, done, times, cert}
-use Rattle.exact.proofs.Shape.{shape, whole_e, over_e, ◌+e◌, ◌*e◌}
+use Rattle.exact.proofs.Shape.{shape, over_e, ◌+e◌}
 use Rattle.exact.proofs.Order.{leb-agree}
-use Rattle.exact.proofs.Substitution.{≈q-refl, ≈q-sym, ≈q-trans, becomes, net, +q-cong, *q-cong, ≤q-cong, <q-cong}
-use Rattle.exact.proofs.Raised.{raised-cong, raised-over-le, raised-over-near}
+use Rattle.exact.proofs.Substitution.{≈q-refl, ≈q-sym, becomes, +q-cong, ≤q-cong, <q-cong}
 use Rattle.train.specs.declared.Inertia.{Inertia}
 use Rattle.ramp_motion.specs.declared.Overrun.{Overrun}
 use Rattle.ramp_motion.specs.declared.Plan.{Plan}
 use Rattle.ramp_motion.specs.Motion.{di, dp}
 use Rattle.ramp_motion.specs.Plan.{IsPlan, squares, gain, loss}
 use Rattle.ramp_motion.proofs.Brake.{built, bend}
-use Rattle.ramp_motion.proofs.Furthest.{more, less, finer, Fast, Slow, ahead, furthest-fine}
+use Rattle.ramp_motion.proofs.Furthest.{more, less, finer, Fast, Slow, furthest-fine}
 use Rattle.ramp_motion.proofs.Phases.{place_is}
 use Rattle.ramp_plan.specs.Fair.{Small}
-use Rattle.ramp_stop.specs.Stop.{Turns, place_up}
-use Rattle.ramp.specs.Answer.{strong, distance, Promise}
-use Rattle.ramp.proofs.Moment.{place_at_lem, moment-is}
+use Rattle.ramp_stop.specs.Stop.{Turns}
+use Rattle.ramp.specs.Answer.{strong, Promise}
+use Rattle.ramp.proofs.Moment.{place_at_lem}
+use Rattle.ramp.proofs.Distance.{millimetres, enough, close}
+pub use Rattle.ramp.proofs.Distance.{distance_is}
 
 -- after the last millisecond before it rolls back, the train gets at most a millimetre further
 pub at-most-a-millimetre : (m : Plan) (t : ℕ) → Small m → Turns m t → more m t 1 ≤ less m t 1 + 108 * 10 ^ 10 * m.tr
@@ -52,28 +53,8 @@ module _ (k : Inertia) (o : Overrun) (m : Plan) (is : IsPlan k o m) (s : Small m
       (λ h. omega (arith, <q-cong sum_is (≈q-refl {a = 5 over 100} (lit< tt)) h)))
 
   module _ (t : ℕ) (h : Turns m t) where
-    abbrev unit : ℕ
-    unit = 108 * 10 ^ 10 * m.tr
-
     abbrev D : ℕ
-    D = place_up m t + 1
-
-    unit-some : 0 < unit
-    unit-some = mul-pos (lit< tt) s.some
-
-    -- the distance in mm is more than the place at t by 1 to 2
-    enough : gain m t + unit ≤ D * unit + loss m t
-    unfolding place_up
-    enough =
-        let i : gain m t - loss m t ≤ place_up m t * unit = (raised-over-le (gain m t - loss m t) unit (place_up m t) unit-some).0 (le_refl (place_up m t)) in
-        cert (gain m t ∷ loss m t ∷ unit ∷ place_up m t ∷ []) (times (num 1) x0 (x3 ⊗ x2 ⊕ x1) (omega arith) done) (x0 ⊕ x2) ((x3 ⊕ num 1) ⊗ x2 ⊕ x1) refl
-
-    close : D * unit + loss m t + 1 ≤ gain m t + 2 * unit
-    unfolding place_up
-    close =
-        let i : place_up m t * unit < gain m t - loss m t + unit = raised-over-near (gain m t - loss m t) unit unit-some in
-        let a = ahead m t h.still in
-        cert (gain m t ∷ loss m t ∷ unit ∷ place_up m t ∷ []) (times (num 1) (x3 ⊗ x2 ⊕ x1 ⊕ num 1) (x0 ⊕ x2) (omega arith) done) ((x3 ⊕ num 1) ⊗ x2 ⊕ x1 ⊕ num 1) (x0 ⊕ num 2 ⊗ x2) refl
+    D = millimetres m t
 
     abbrev unit_e : Expr
     unit_e = num (108 * 10 ^ 10) ⊗ x7
@@ -86,7 +67,7 @@ module _ (k : Inertia) (o : Overrun) (m : Plan) (is : IsPlan k o m) (s : Small m
     never-beyond p q l =
         cert (gain (finer q m) (1000 * p) ∷ loss (finer q m) (1000 * p) ∷ gain m t ∷ loss m t ∷ more m t 1 ∷ less m t 1 ∷ q ∷ m.tr ∷ D ∷ [])
         (times (num 1000) (x0 ⊕ cubed ⊗ (x3 ⊕ x5)) (x1 ⊕ cubed ⊗ (x2 ⊕ x4)) (furthest-fine m q t 1 l (lit< tt) h.still (le_of_lt h.back) (1000 * p))
-        (times (num 1000 ⊗ cubed) x4 (x5 ⊕ unit_e) (at-most-a-millimetre m t s h) (times (num 1000 ⊗ cubed) (x2 ⊕ unit_e) (x8 ⊗ unit_e ⊕ x3) enough done)))
+        (times (num 1000 ⊗ cubed) x4 (x5 ⊕ unit_e) (at-most-a-millimetre m t s h) (times (num 1000 ⊗ cubed) (x2 ⊕ unit_e) (x8 ⊗ unit_e ⊕ x3) (enough k o m is s t h) done)))
         (num 1000 ⊗ x0) (x8 ⊗ (num (108 * 10 ^ 13) ⊗ x7 ⊗ cubed) ⊕ num 1000 ⊗ x1) refl
 
     pub promised : Promise k o 2 D t
@@ -95,16 +76,5 @@ module _ (k : Inertia) (o : Overrun) (m : Plan) (is : IsPlan k o m) (s : Small m
       never = λ p q l.
           ≤q-cong (≈q-sym (place_is k o m is p q l s.some)) (≈q-refl {a = D over 1000} (lit< tt)) (omega (arith, never-beyond p q l));
       near =
-          <q-cong (≈q-refl {a = (D over 1000) -q (2 over 1000)} (lit< tt)) (≈q-sym (place_at_lem k o m is s.some t)) (omega (arith, close));
+          <q-cong (≈q-refl {a = (D over 1000) -q (2 over 1000)} (lit< tt)) (≈q-sym (place_at_lem k o m is s.some t)) (omega (arith, close k o m is s t h));
     }
-
-    pub distance_is : D ≡ distance k o
-    unfolding distance place_up
-    distance_is =
-        ap (λ n. n + 1)
-        (rw (← moment-is k o m is s.some t h)
-        (sym (raised-cong
-        (≈q-trans
-        (becomes (gain m t ∷ loss m t ∷ m.tr ∷ []) done (whole_e (num 1000) *e shape x0 x1 (num (108 * 10 ^ 13) ⊗ x2)) (shape x0 x1 (num (108 * 10 ^ 10) ⊗ x2))
-        (*q-cong (≈q-refl {a = whole 1000} (lit< tt)) (place_at_lem k o m is s.some t)) unit-some refl)
-        (net (gain m t) (loss m t) unit (ahead m t h.still) unit-some)))))

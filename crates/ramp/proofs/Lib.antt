@@ -1,8 +1,11 @@
 mod Moment
+mod Distance
 mod Kept
+mod Spanned
 pub mod Judging
 pub mod Speeds
 mod Faster
+mod Deciding
 pub mod Answers
 pub mod Always
 pub mod Rising

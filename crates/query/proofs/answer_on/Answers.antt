@@ -22,6 +22,8 @@ returns-in-Weak c =
     let h : Releases a.k.inertia (past_at a.train a.tm a.tr a.w 1) a.w.overlap a.train.top Weak = rw c.in-Weak.is at c.speed-release.ensures in
     c.refused_with.ensures ∙ as-released a.k a.train a.tm a.tr a.w a.governing Weak h
 
+-- a speed was found, and
+-- the permitted speed goes with it
 pub returns-in-Speed : goal.returns-in-Speed
 returns-in-Speed c =
     let a = c.args in

@@ -35,12 +35,9 @@ pub returns : goal.returns
 returns c =
     let a = c.args in
     let p = place (goal.at.returns c).Else-bad-gt0 in
-    let t : c.tail-tail.result.0 ≡ tail_of a.head.0 a.length.0 = c.tail-tail.ensures in
+    let t = c.tail-tail.ensures in
     let z : c.signal_ahead-found.result.refusal ≡ 0 = omega (arith, c.if-bad-gt0.false) in
     let f = by-the-sheet a.s.now a.signal a.head.0 a.length.0 c.if-length-gt1000.false ∙ c.signal_ahead-found.ensures.refused ∙ z in
-    let l = line_of a.s.now in
-    let tail = tail_of a.head.0 a.length.0 in
-    let stepped : c.step_back.result ≡ back_on l c.tail-tail.result.0 c.signal_ahead-found.result.place.0 a.step = c.step_back.ensures.0 in
-    let answer = stepped ∙ ap (λ (x : ℕ). back_on l x c.signal_ahead-found.result.place.0 a.step) t ∙ ap (λ (x : ℕ). back_on l tail x a.step) p in
-    let steps = subst (λ (x : ℕ). Steps a.s.now tail x a.step c.step_back.result) p (subst (λ (x : ℕ). Steps a.s.now x c.signal_ahead-found.result.place.0 a.step c.step_back.result) t c.step_back.ensures.1) in
+    let answer = simp (t, p) at c.step_back.ensures.0 in
+    let steps = simp (t, p) at c.step_back.ensures.1 in
     back-given a.s.now a.signal a.head.0 a.length.0 a.step _ f answer steps

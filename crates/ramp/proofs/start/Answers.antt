@@ -8,17 +8,11 @@ use Rattle.ramp.specs.Answer.{inputs, strong}
 use Rattle.ramp.proofs.Answers.{inputs-fit, by-weakness, by-none}
 use Rattle.ramp.proofs.Kept.{strong-is}
 use Rattle.ramp.proofs.start.Goals as goal
-use Rattle.ramp.proofs.start.Goals.{After-is_strong, Else-bad-gt0}
+use Rattle.ramp.proofs.start.Goals.{Else-bad-gt0}
 
 -- the inputs are not turned away
 passed : (c : Else-bad-gt0) → let a = c.args in first_of (inputs a.k a.o) ≡ 0
 passed c = omega (arith, c.if-bad-gt0.false, c.turned_away-bad.ensures)
-
--- the test says what the definition says
-strong-says : (c : After-is_strong) → let a = c.args in c.is_strong.result ≡ strong a.k a.o
-strong-says c =
-    let p = c.plan_of-m.ensures in
-    c.is_strong.ensures ∙ strong-is _ _ _ p.0 p.1
 
 pub plan_of-m-requires : goal.plan_of-m-requires
 plan_of-m-requires c = let a = c.args in inputs-fit a.k a.o (passed (goal.at.plan_of-m-requires c).Else-bad-gt0)
@@ -26,15 +20,20 @@ plan_of-m-requires c = let a = c.args in inputs-fit a.k a.o (passed (goal.at.pla
 pub returns-then-not-is_strong : goal.returns-then-not-is_strong
 returns-then-not-is_strong c =
     let a = c.args in
-    (lit< tt, by-weakness a.k a.o (passed (goal.at.returns-then-not-is_strong c).Else-bad-gt0) (sym (strong-says (goal.at.returns-then-not-is_strong c).After-is_strong) ∙ c.if-not-is_strong.true))
+    let p = c.plan_of-m.ensures in
+    -- the test says what the definition says
+    let e : c.is_strong.result ≡ strong a.k a.o = c.is_strong.ensures ∙ strong-is _ _ _ p.0 p.1 in
+    (lit< tt, by-weakness a.k a.o (passed (goal.at.returns-then-not-is_strong c).Else-bad-gt0) (sym e ∙ c.if-not-is_strong.true))
 
 pub returns : goal.returns
 returns c =
     let a = c.args in
+    let p = c.plan_of-m.ensures in
     let s = c.if-not-is_strong.false in
+    let e : c.is_strong.result ≡ strong a.k a.o = c.is_strong.ensures ∙ strong-is _ _ _ p.0 p.1 in
     record {
-      accepted = by-none a.k a.o (passed (goal.at.returns c).Else-bad-gt0) (sym (strong-says (goal.at.returns c).After-is_strong) ∙ s);
-      plan = c.plan_of-m.ensures.0;
-      small = c.plan_of-m.ensures.1;
+      accepted = by-none a.k a.o (passed (goal.at.returns c).Else-bad-gt0) (sym e ∙ s);
+      plan = p.0;
+      small = p.1;
       enough = leb-true _ _ (sym c.is_strong.ensures ∙ s);
     }
