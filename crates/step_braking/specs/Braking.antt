@@ -1,4 +1,4 @@
--- Document 01, "Step distances"; document 002, sections 7 to 7.4, and 8.1 for t_r, as they are printed, with the train's own
+-- Document 01, "Step distances"; document 002, sections 7 to 7.4, and 8.1 for tR, as they are printed, with the train's own
 -- coefficients (document 02, Card 5). Times in s, speeds in m/s.
 use Rattle.std.specs.Prelude.{Bool, cond, leb, eqb}
 use Rattle.exact.specs.Fraction.{Fraction, whole, signed, ◌over◌, ◌+q◌, ◌-q◌, ◌*q◌, maxq}

@@ -7,7 +7,7 @@ use train::Kmh;
 
 pub mod strength;
 
-// T and t_r + tf in 10⁻⁸ s; an uphill and a downhill slope's deceleration, and Kr · dr, in 10⁻⁷ m/s²;
+// T and tR + tf in 10⁻⁸ s; an uphill and a downhill slope's deceleration, and Kr · dr, in 10⁻⁷ m/s²;
 // cr in hundredths, nC (plus - minus) in thousandths, VC.
 #[derive(Clone, Copy)]
 pub struct Course {

@@ -1,4 +1,4 @@
-// The course of a train on a gradient, from document 002's coefficients. Sections 7 to 7.3 and, for t_r, 8.1.
+// The course of a train on a gradient, from document 002's coefficients. Sections 7 to 7.3 and, for tR, 8.1.
 // Takes: delay and slope in whole numbers (`train_delay`, `train_slope`). Gives: `course_of`, to `step` and `query_permitted`.
 #![tactic(auto)]
 

@@ -12,7 +12,7 @@ use Rattle.step_curve.specs.declared.Terms.{Terms}
 unfoldable pub square_of : ℕ → ℕ → ℕ
 square_of b b0 = (b - b0) * (b + b0)
 
--- how often a curve counts t_r + tf at Vβ, and 1.5 s at V
+-- how often a curve counts tR + tf at Vβ, and 1.5 s at V
 abbrev pub service_of : Curve → ℕ
 service_of Ebi = 0
 service_of Sbi = 1

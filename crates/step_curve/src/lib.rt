@@ -32,7 +32,7 @@ pub struct Terms {
     pub scale: Wide,
 }
 
-// How often a curve counts t_r + tf at Vβ, and 1.5 s at V.
+// How often a curve counts tR + tf at Vβ, and 1.5 s at V.
 #[derive(Clone, Copy)]
 pub struct Ahead {
     pub service: u64,
