@@ -1,5 +1,8 @@
 pub mod Order
+mod Reaches
 pub mod Stretches
+mod OneMore
+mod Slopes
 mod Governing
 pub mod Points
 pub mod Ends

@@ -1,4 +1,5 @@
 -- `fields_keep`: the counts, the first start, and both tables.
+use native.Mathlib.Omega.{arith}
 use Prim.Native.Nat.{ℕ, ◌+◌, ◌*◌}
 use mathlib.Core.Bool.{Bool}
 use mathlib.Core.List.{List}
@@ -38,7 +39,7 @@ returns-then-not-counts_keep c = sym (refuted _ (λ k. (counted (goal.at.returns
 
 pub returns-then-u32_at-ne0 : goal.returns-then-u32_at-ne0
 returns-then-u32_at-ne0 c =
-    sym (refuted _ (λ k. c.if-u32_at-ne0.true (c.u32_at.ensures ∙ (kept_of _ k).origin)))
+    sym (refuted _ (λ k. c.if-u32_at-ne0.true (omega (arith, c.u32_at.ensures ∙ (kept_of _ k).origin))))
 
 pub returns-then-not-records_keep : goal.returns-then-not-records_keep
 returns-then-not-records_keep c =
