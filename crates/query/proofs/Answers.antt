@@ -1,16 +1,13 @@
 -- What the code finds out, refusal by refusal, makes the answer of the definition; an accepted one keeps the third demand.
-use mathlib.Core.Path.{◌≡◌, refl, sym, ap, ◌∙◌}
+use mathlib.Core.Path.{◌≡◌, refl, sym, ◌∙◌}
 use mathlib.Core.Bool.{Bool, true, false, not, cond}
-use mathlib.Core.List.{List, [], ◌++◌}
+use mathlib.Core.List.{List, ◌++◌}
 use mathlib.Core.Logic.{inl}
 use Prim.Native.Nat.{ℕ, ◌<◌}
 use native.Mathlib.Omega.{arith}
 use borrow.Author.Tests.{le-ltb, ne_eqb}
-use lib.Dec.{eqb, lit<}
-use Rattle.train.specs.declared.Kmh.{Kmh}
-use Rattle.train.specs.declared.Metre.{Metre}
+use lib.Dec.{lit<}
 use Rattle.train.specs.declared.Train.{Train}
-use Rattle.train.specs.declared.Gradient.{Gradient}
 use Rattle.train.specs.declared.Coefficients.{Coefficients}
 use Rattle.train.specs.Units.{kmh}
 use Rattle.train.specs.Refusal.{Refusal, first_of, train_refusals, coefficient_refusals}
@@ -31,14 +28,11 @@ use Rattle.query_way.specs.declared.Found.{Found}
 use Rattle.query_way.specs.declared.Found.TheVariants.{Refused, Ready}
 use Rattle.query_way.specs.Way.{way_refusals, Leads}
 use Rattle.query_way.specs.Find.{Finds}
-use Rattle.query_release.specs.declared.Release.{Release}
-use Rattle.query_release.specs.Release.{weak_past, says_of, Releases}
-use Rattle.query_permitted.specs.declared.Permitted.{Permitted}
-use Rattle.query_permitted.specs.Permitted as permitted
-use Rattle.query_permitted.specs.Permitted.{permitted_of, mark_of, Permits}
+use Rattle.query_release.specs.Release.{weak_past}
+use Rattle.query_permitted.specs.Permitted.{permitted_of}
 use Rattle.query.specs.declared.Answer.{Answer}
 use Rattle.query.specs.Demand.{past_at}
-use Rattle.query.specs.Answer.{refused, answered, release, brake_refusals, accepted, inputs, way_to, governing_to, query_refusals, answer_of, QueryAnswers}
+use Rattle.query.specs.Answer.{refused, release, brake_refusals, accepted, inputs, way_to, governing_to, query_refusals, answer_of, QueryAnswers}
 use Rattle.query.specs.Rules.{TooWeak, input_rules, brake_rules, query_rules}
 use Rattle.query.specs.Begin.{Fit, Starts, answer_at, answer_on}
 use Rattle.query.proofs.Third.{fit-ahead, creeps, kept}

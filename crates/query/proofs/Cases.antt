@@ -1,36 +1,17 @@
 -- What the climbs have found, case by case, makes the answer of the definition.
-use mathlib.Core.Path.{◌≡◌, refl, sym, ap, ◌∙◌}
-use mathlib.Core.Bool.{Bool, true, false, not, cond}
-use mathlib.Core.List.{List, [], ◌++◌}
-use mathlib.Core.Logic.{inl}
-use Prim.Native.Nat.{ℕ, ◌<◌}
-use native.Mathlib.Omega.{arith}
-use borrow.Author.Tests.{le-ltb, ne_eqb}
-use lib.Dec.{eqb, lit<}
+use mathlib.Core.Path.{◌≡◌, ap}
+use mathlib.Core.Bool.{Bool, true, false, cond}
+use Prim.Native.Nat.{ℕ}
+use lib.Dec.{eqb}
 use Rattle.train.specs.declared.Kmh.{Kmh}
 use Rattle.train.specs.declared.Metre.{Metre}
 use Rattle.train.specs.declared.Train.{Train}
 use Rattle.train.specs.declared.Gradient.{Gradient}
 use Rattle.train.specs.declared.Coefficients.{Coefficients}
 use Rattle.train.specs.Units.{kmh}
-use Rattle.train.specs.Refusal.{Refusal, first_of, train_refusals, coefficient_refusals}
-use Rattle.train.specs.Judged.{Judged}
-use Rattle.train.proofs.Judging.{Judges, ◌then◌, no_more, told, before_more, behind-kept, at_least, below, weight-settles, length-settles, top-settles, coefficients-settle}
-use Rattle.train.proofs.Lending.{refused-demand, given-demand}
-use Rattle.train.proofs.Refusals.{Rising, rising-before, train-rising, coefficients-rising, first-after, first-before}
 use Rattle.step_braking.specs.Braking.{strong}
-use Rattle.ceilings.specs.Ceilings.{limits_of}
-use Rattle.ceilings.proofs.Agrees.{as-printed}
-use Rattle.ramp.specs.Answer.{time_refusals}
-use Rattle.ramp.proofs.Judging.{times-settles}
-use Rattle.sheet.specs.Sheet.{line_of}
-use Rattle.sheet.proofs.Kept.{sheet-settles}
 use Rattle.query_way.specs.declared.Way.{Way}
 use Rattle.query_way.specs.declared.Governing.{Governing}
-use Rattle.query_way.specs.declared.Found.{Found}
-use Rattle.query_way.specs.declared.Found.TheVariants.{Refused, Ready}
-use Rattle.query_way.specs.Way.{way_refusals, Leads}
-use Rattle.query_way.specs.Find.{Finds}
 use Rattle.query_release.specs.declared.Release.{Release}
 use Rattle.query_release.specs.Release.{weak_past, says_of, Releases}
 use Rattle.query_permitted.specs.declared.Permitted.{Permitted}
@@ -38,9 +19,8 @@ use Rattle.query_permitted.specs.Permitted as permitted
 use Rattle.query_permitted.specs.Permitted.{permitted_of, mark_of, Permits}
 use Rattle.query.specs.declared.Answer.{Answer}
 use Rattle.query.specs.Demand.{past_at}
-use Rattle.query.specs.Answer.{refused, answered, release, brake_refusals, accepted, inputs, way_to, governing_to, query_refusals, answer_of, QueryAnswers}
-use Rattle.query.specs.Rules.{TooWeak, input_rules, brake_rules, query_rules}
-use Rattle.query.specs.Begin.{Fit, Starts, answer_at, answer_on}
+use Rattle.query.specs.Answer.{refused, answered, release}
+use Rattle.query.specs.Begin.{answer_at, answer_on}
 
 -- what is made of one of two is one of what is made of both
 of_either : {A B : Type 0} (f : A → B) (b : Bool) (x y s : A) → s ≡ cond b x y → f s ≡ cond b (f x) (f y)

@@ -4,6 +4,7 @@ mod Kept
 mod Spanned
 pub mod Judging
 pub mod Speeds
+mod Further
 mod Faster
 mod Deciding
 pub mod Answers

@@ -1,5 +1,4 @@
 -- `answer_at`: what the climb to the permitted speed found makes the answer.
-use borrow.Author.Rules.{rules}
 use mathlib.Core.Path.{◌≡◌, ◌∙◌}
 use Rattle.query_permitted.specs.declared.Permitted.TheVariants.{Weak, Release, Curve}
 use Rattle.query_permitted.specs.Permitted.{on_curve, on_release, Permits}

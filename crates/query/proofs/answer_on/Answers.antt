@@ -1,12 +1,9 @@
 -- `answer_on`: what the climb to the release speed found makes the answer.
-use borrow.Author.Rules.{rules}
 use mathlib.Core.Path.{◌≡◌, ◌∙◌}
 use Rattle.query_release.specs.declared.Release.TheVariants.{Weak, Speed}
 use Rattle.query_release.specs.Release.{Releases}
 use Rattle.query.specs.Demand.{past_at}
 use Rattle.query.specs.Begin.{answer_at}
-use Rattle.query.proofs.Creep.{inputs-past}
-use Rattle.query.proofs.Third.{fit-ahead}
 use Rattle.query.proofs.Answers.{as-released}
 use Rattle.query.proofs.answer_on.Goals as goal
 use Rattle.query.proofs.answer_on.Goals.{In-Speed}

@@ -1,5 +1,4 @@
 -- `query`: a refusal is the definition's, and so is the answer on the way, which keeps the third demand.
-use borrow.Author.Rules.{rules}
 use Rattle.query_way.specs.declared.Found.TheVariants.{Refused}
 use Rattle.query.specs.Begin.{Starts, IsReady}
 use Rattle.query.proofs.Answers.{by-inputs, on-way}

@@ -28,7 +28,7 @@ returns-then-length-gt1000 c =
 pub returns-then-bad-gt0 : goal.returns-then-bad-gt0
 returns-then-bad-gt0 c =
     let a = c.args in
-    let e = by-the-sheet a.s.now a.signal a.head.0 a.length.0 c.if-length-gt1000.false ∙ c.signal_ahead-found.ensures.refused in
+    let e = by-the-sheet a.s.now a.signal a.head.0 a.length.0 (omega arith) ∙ c.signal_ahead-found.ensures.refused in
     rw c.refused_with-then-bad-gt0.ensures (back-refused a.s.now a.signal a.head.0 a.length.0 a.step _ e c.if-bad-gt0.true)
 
 pub returns : goal.returns
@@ -37,7 +37,7 @@ returns c =
     let p = place (goal.at.returns c).Else-bad-gt0 in
     let t = c.tail-tail.ensures in
     let z : c.signal_ahead-found.result.refusal ≡ 0 = omega (arith, c.if-bad-gt0.false) in
-    let f = by-the-sheet a.s.now a.signal a.head.0 a.length.0 c.if-length-gt1000.false ∙ c.signal_ahead-found.ensures.refused ∙ z in
+    let f = by-the-sheet a.s.now a.signal a.head.0 a.length.0 (omega arith) ∙ c.signal_ahead-found.ensures.refused ∙ z in
     let answer = simp (t, p) at c.step_back.ensures.0 in
     let steps = simp (t, p) at c.step_back.ensures.1 in
     back-given a.s.now a.signal a.head.0 a.length.0 a.step _ f answer steps
