@@ -2,24 +2,21 @@
 use mathlib.Core.Path.{◌≡◌, refl, sym, ap, subst, ◌∙◌}
 use mathlib.Core.Bool.{true, false}
 use mathlib.Core.List.{List, [], ◌∷◌, ◌++◌}
-use Prim.Native.Nat.{ℕ, suc, ◌≤◌, ◌<◌}
+use Prim.Native.Nat.{ℕ, suc, ◌<◌}
 use native.Mathlib.Omega.{arith}
-use borrow.Author.Tests.{lt-ltb, le-ltb}
 use lib.ListN.{length, take, drop, length-append, length-drop}
 use lib.Seq.{take_at, drop_at}
-use Rattle.train.specs.Judged.{◌keeps◌, Judged}
 use Rattle.train.specs.Lent.{FirstDemand}
-use Rattle.train.specs.Refusal.{first_of}
 use Rattle.train.proofs.Refusals.{Rising}
-use Rattle.train.proofs.Judging.{at_least, no_more, ◌then◌, told}
 use Rattle.train.proofs.Lending.{refused-demand}
 use Rattle.lists.specs.Put.{put}
 use Rattle.lists.proofs.Laid.{put_front}
 use Rattle.sheet.specs.Kept.{IsSheet}
 use Rattle.sheet.proofs.Kept.{sheet-of}
-use Rattle.sheet.specs.Fields.{Fields, listed, writable, Writable, sheet_of, fields_of}
+use Rattle.sheet.specs.Fields.{Fields, listed, writable, sheet_of, fields_of}
 use Rattle.sheet.proofs.RoundTrip.{bytes-length}
-use Rattle.sheet.proofs.Writable.{writable-settles, written-sheet, written_back}
+use Rattle.sheet.proofs.Writable.{written-sheet, written_back}
+use Rattle.sheet_writer.proofs.Room.{Short, Roomy, short, roomy, spans}
 use Rattle.sheet_writer.specs.Answer.{size, write_refusals, write_of, buffer_after, Writes}
 
 never : {A : Type 0} (n : ℕ) → suc n ≡ 0 → A
@@ -30,10 +27,6 @@ pub write-rising : (f : Fields) (room : ℕ) → Rising 1 (write_refusals f room
 write-rising f room = (tt, (tt, tt))
 
 module _ (f : Fields) (lent : List ℕ) where
-  -- the refusals by the rules
-  spans : (n : ℕ) → n ≡ first_of (write_refusals f (length lent)) → Judged (7 keeps Writable f ∷ 11 keeps (size f ≤ length lent) ∷ []) n
-  spans n e = (told (writable-settles f then at_least 11 tt (size f) (length lent) then no_more) e).1
-
   -- a refusal
   left_alone : (n k : ℕ) → k ≡ 0 → FirstDemand n (k ∷ []) lent lent k
   left_alone n k z = rw z (refused-demand n (0 ∷ []) lent (refl, tt))
@@ -44,7 +37,7 @@ module _ (f : Fields) (lent : List ℕ) where
       record {
         unwritten = refl;
         lent = left_alone 7 _ (omega arith);
-        spans = spans 7 (simp w);
+        spans = spans f lent 7 (simp w);
         long = never 6;
         answer = simp w;
         memory = simp w;
@@ -53,14 +46,14 @@ module _ (f : Fields) (lent : List ℕ) where
       }
 
   module _ (w : writable f ≡ true) where
-    pub no_room : length lent < size f → Writes f f lent (record { refusal = 11; length = 0 }) lent
+    pub no_room : Short f lent → Writes f f lent (record { refusal = 11; length = 0 }) lent
     unfolding write_of buffer_after
     no_room h =
-        let t = lt-ltb (length lent) (size f) h in
+        let t = short f lent h in
         record {
           unwritten = refl;
           lent = left_alone 11 _ (omega arith);
-          spans = spans 11 (simp (w, t));
+          spans = spans f lent 11 (simp (w, t));
           long = never 10;
           answer = simp (w, t);
           memory = simp (w, t);
@@ -68,10 +61,10 @@ module _ (f : Fields) (lent : List ℕ) where
           back = never 10;
         }
 
-    pub written : {after : List ℕ} → size f ≤ length lent → after ≡ put 0 (sheet_of f) lent → Writes f f lent (record { refusal = 0; length = size f }) after
+    pub written : {after : List ℕ} → Roomy f lent → after ≡ put 0 (sheet_of f) lent → Writes f f lent (record { refusal = 0; length = size f }) after
     unfolding write_of buffer_after
     written {after} h e =
-        let t = le-ltb (length lent) (size f) h in
+        let t = roomy f lent h in
         let n = bytes-length (listed f) in
         let m : after ≡ sheet_of f ++ drop (size f) lent = e ∙ put_front (sheet_of f) lent ∙ ap (λ (k : ℕ). sheet_of f ++ drop k lent) n in
         let front : take (size f) after ≡ sheet_of f = ap (take (size f)) m ∙ take_at (sheet_of f) (drop (size f) lent) (size f) n in
@@ -80,7 +73,7 @@ module _ (f : Fields) (lent : List ℕ) where
         record {
           unwritten = refl;
           lent = record { zeros = λ l. absurd (let z : 0 < 0 = l in omega arith); untouched = λ l. absurd (let z : 0 < 0 = l in omega arith); room = omega arith; size = whole; beyond = behind };
-          spans = spans 0 (simp (w, t));
+          spans = spans f lent 0 (simp (w, t));
           long = λ z. omega arith;
           answer = simp (w, t);
           memory = m ∙ simp (w, t);
