@@ -36,7 +36,7 @@ test: archives ## the calls from C and the Rust tests, over what is proved
 	cc -std=c11 -Wall -Wextra -Werror -Iinclude c/calls.c $(designers) -o target/calls && target/calls
 	$(cargo) test --release --offline --manifest-path rust/Cargo.toml
 
-gate: ## everything from nothing, as CI does: proofs, wrong programs, programs, calls from C, Rust tests
+gate: ## everything, as CI does: proofs, wrong programs, programs, calls from C, Rust tests
 	bash .ci/run
 
 ceilings: ## writes the table of crates/ceilings_stored anew, from the reference
