@@ -20,9 +20,7 @@ ghost use Rattle.query.specs.Answer.{QueryAnswers};
 ghost use Rattle.approach_train.specs.Entered.{train_of};
 ghost use Rattle.approach_train.specs.Coefficients.{inertia_of, coefficients_of};
 
-use approach_train::{
-    Entered, EnteredCoefficients, EnteredInertia, coefficients_of, inertia_of, train_of,
-};
+use approach_train::{Entered, EnteredCoefficients, EnteredInertia};
 use ceilings::Limits;
 use query::Answer;
 use ramp::Stop;
@@ -45,16 +43,16 @@ pub extern "C" fn approach_first_values() -> EnteredCoefficients
 pub extern "C" fn approach_step(train: Entered, v: u32, v0: u32, gradient: i32) -> Distances
     ensures { StepAnswers (coefficients_of train.coefficients) (train_of train) (gradient_of gradient) (kmh v) (kmh v0) result }
 {
-    let k = coefficients_of(train);
-    step::step(k, train_of(train), Kmh(v), Kmh(v0), gradient)
+    let k = train.coefficients.into();
+    step::step(k, train.into(), Kmh(v), Kmh(v0), gradient)
 }
 
 // An enum cannot cross the border, so there is a row for each curve.
 fn row_of(curve: Curve, train: Entered, v0: u32, gradient: i32, row: &mut [u32]) -> Written
     ensures { RowAnswers (coefficients_of train.coefficients) (train_of train) (gradient_of gradient) curve (kmh v0) row.old result row.new }
 {
-    let k = coefficients_of(train);
-    step_row::row(curve, k, train_of(train), Kmh(v0), gradient, row)
+    let k = train.coefficients.into();
+    step_row::row(curve, k, train.into(), Kmh(v0), gradient, row)
 }
 
 #[unsafe(no_mangle)]
@@ -106,7 +104,7 @@ pub extern "C" fn approach_ramp(
 ) -> Stop
     ensures { RampAnswers (inertia_of inertia) (record { weight = braked_weight; gradient = gradient_of gradient; v = kmh v; tm = tm; tr = tr }) result }
 {
-    ramp::ramp(braked_weight, gradient, Kmh(v), tm, tr, inertia_of(inertia))
+    ramp::ramp(braked_weight, gradient, Kmh(v), tm, tr, inertia.into())
 }
 
 #[unsafe(no_mangle)]
@@ -182,6 +180,6 @@ pub extern "C" fn approach_query(
 ) -> Answer
     ensures { QueryAnswers (coefficients_of train.coefficients) (train_of train) tm tr sheet.now signal head result sheet.now }
 {
-    let k = coefficients_of(train);
-    query::query(k, train_of(train), tm, tr, sheet, signal, Metre(head))
+    let k = train.coefficients.into();
+    query::query(k, train.into(), tm, tr, sheet, signal, Metre(head))
 }

@@ -1,14 +1,14 @@
 // Document 01's program: reads a line sheet on standard input, and prints how one train may approach each of its signals.
-// Takes: `sheet`, `sheet_fields`, `query`. Gives: a program.
+// Takes: `sheet_fields`, `query`. Gives: a program.
 #![tactic(auto)]
 
-ghost use Rattle.std.specs.Prelude.{◌≡◌, ◌≤◌, true, length, IfOk};
+ghost use Rattle.std.specs.Prelude.{◌≡◌, ◌≤◌, length, IfOk};
 ghost use Rattle.train.specs.Coefficients.{first};
-ghost use Rattle.sheet.specs.Sheet.{accepted};
 ghost use Rattle.query.specs.Answer.{QueryAnswers};
 ghost use Rattle.approach_sheet.specs.Example.{example_train};
 
 use query::Answer;
+use sheet_fields::Accepted;
 use std::io::{self, Read};
 use train::{BrakeType, Kmh, Metre, Train};
 
@@ -33,61 +33,33 @@ fn answer(s: &[u8], signal: u32) -> Answer
     query::query(k, example_train(), 200, 400, s, signal, Metre(0))
 }
 
-// A space and a number.
-fn print_field(rt: &impl Print, n: u32) -> io::Result<()> {
-    print!(rt; " {n}")
-}
-
-// What an accepted answer has behind the signal's number.
-fn print_accepted(rt: &impl Print, a: Answer) -> io::Result<()> {
-    let release = a.release;
-    let permitted = a.permitted;
-    let w = a.w;
-    let sbi = a.sbi;
-    let ebi = a.ebi;
-    print_field(rt, release.0)?;
-    print_field(rt, permitted.0)?;
-    if a.mark == 1 {
-        print!(rt; " curve")?;
-    } else {
-        print!(rt; " release")?;
-    }
-    print_field(rt, w.0)?;
-    print_field(rt, sbi.0)?;
-    print_field(rt, ebi.0)
-}
-
-// A signal's line.
+// A signal's line. The answer is the record that C reads: numbers for refusal and mark.
 fn print_line(rt: &impl Print, signal: u32, a: Answer) -> io::Result<()> {
-    print!(rt; "{signal}")?;
     if a.refusal > 0 {
-        print!(rt; " refused")?;
-        print_field(rt, a.refusal)?;
-    } else {
-        print_accepted(rt, a)?;
+        return println!(rt; "{signal} refused {}", a.refusal);
     }
-    println!(rt; "")
+    let mark = if a.mark == 1 { "curve" } else { "release" };
+    print!(rt; "{signal} {} {} {mark}", a.release.0, a.permitted.0)?;
+    println!(rt; " {} {} {}", a.w.0, a.sbi.0, a.ebi.0)
 }
 
-// A line for each signal of an accepted sheet.
-fn print_signals(rt: &impl Print, s: &[u8]) -> io::Result<()>
-    requires { accepted s.now ≡ true }
-{
-    for k in 0..sheet_fields::signals(s) {
-        print_line(rt, k, answer(s, k))?;
+// A line for each signal.
+fn print_signals(rt: &impl Print, sheet: Accepted<'_>) -> io::Result<()> {
+    for k in 0..sheet.signals() {
+        print_line(rt, k, answer(sheet.bytes, k))?;
     }
     Ok(())
 }
 
-fn print_sheet(rt: &impl Print, s: &[u8]) -> io::Result<()> {
-    if sheet::check::accepts(s) {
-        print_signals(rt, s)
-    } else {
-        println!(rt; "refused 7")
+fn print_sheet(rt: &impl Print, bytes: &[u8]) -> io::Result<()> {
+    match Accepted::open(bytes) {
+        Ok(sheet) => print_signals(rt, sheet),
+        Err(refusal) => println!(rt; "refused {}", refusal.number()),
     }
 }
 
-// Reads until the buffer is full or the input ends, and returns how many bytes that gave: a pipe may give fewer at a time.
+// Reads until the buffer is full or the input ends, and returns how many bytes that gave: a pipe may give fewer at a time. Not std's
+// `read_to_end`, which takes memory of the heap.
 fn read_full<R: Read>(input: &mut R, buf: &mut [u8]) -> io::Result<usize>
     ensures { IfOk result (λ n. n ≤ length buf.new) }
 {

@@ -1,2 +1,1 @@
-mod Yes
 mod Meaning

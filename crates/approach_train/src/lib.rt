@@ -47,6 +47,7 @@ pub struct Entered {
     pub coefficients: EnteredCoefficients,
 }
 
+// C's record of the first values needs a constant of its own; the contract of `first_values` ties it to that of `train`.
 const FIRST: EnteredCoefficients = EnteredCoefficients {
     dt: 130,
     h: 10,
@@ -71,57 +72,52 @@ pub fn first_values() -> EnteredCoefficients
 }
 
 // The train that C's record stands for.
-pub fn train_of(t: Entered) -> Train
-    ensures { (result ≡ train_of t) × Meant t result }
-{
-    let working = t.electropneumatic > 0;
-    let brake = if t.freight > 0 {
-        BrakeType::Freight
-    } else {
-        BrakeType::Passenger
-    };
-    Train {
-        brake: brake,
-        electropneumatic: working,
-        weight: t.weight,
-        length: Metre(t.length),
-        top: Kmh(t.top),
+impl From<Entered> for Train {
+    ghost from_gives = { λ t r. (r ≡ train_of t) × Meant t r };
+
+    fn from(t: Entered) -> Train {
+        Train {
+            brake: if t.freight > 0 {
+                BrakeType::Freight
+            } else {
+                BrakeType::Passenger
+            },
+            electropneumatic: t.electropneumatic > 0,
+            weight: t.weight,
+            length: Metre(t.length),
+            top: Kmh(t.top),
+        }
     }
 }
 
 // The coefficients of the slope that C's record stands for.
-pub fn inertia_of(k: EnteredInertia) -> Inertia
-    ensures { (result ≡ inertia_of k) × InertiaMeant k result }
-{
-    let i2 = train_slope::gradient_of(k.i2);
-    Inertia {
-        ki1: k.ki1,
-        ki2: k.ki2,
-        ki3: k.ki3,
-        i1: k.i1,
-        i2: i2,
+impl From<EnteredInertia> for Inertia {
+    ghost from_gives = { λ k r. (r ≡ inertia_of k) × InertiaMeant k r };
+
+    fn from(k: EnteredInertia) -> Inertia {
+        Inertia {
+            ki1: k.ki1,
+            ki2: k.ki2,
+            ki3: k.ki3,
+            i1: k.i1,
+            i2: train_slope::gradient_of(k.i2),
+        }
     }
 }
 
 // The coefficients of a train as C has it.
-pub fn coefficients_of(t: Entered) -> Coefficients
-    ensures { (result ≡ coefficients_of t.coefficients) × CoefficientsMeant t.coefficients result }
-{
-    let k = t.coefficients;
-    let entered = k.inertia;
-    // A rise and a fall, as of a gradient, are the two parts of any signed number.
-    let nc = train_slope::gradient_of(k.nc);
-    let inertia = inertia_of(entered);
-    Coefficients {
-        dt: k.dt,
-        h: k.h,
-        kr: k.kr,
-        cr: k.cr,
-        nc: Signed {
-            plus: nc.rise,
-            minus: nc.fall,
-        },
-        vc: Kmh(k.vc),
-        inertia: inertia,
+impl From<EnteredCoefficients> for Coefficients {
+    ghost from_gives = { λ k r. (r ≡ coefficients_of k) × CoefficientsMeant k r };
+
+    fn from(k: EnteredCoefficients) -> Coefficients {
+        Coefficients {
+            dt: k.dt,
+            h: k.h,
+            kr: k.kr,
+            cr: k.cr,
+            nc: Signed::from(train_slope::gradient_of(k.nc)),
+            vc: Kmh(k.vc),
+            inertia: k.inertia.into(),
+        }
     }
 }

@@ -1,6 +1,5 @@
 -- Document 01's whole numbers are document 002's ceilings.
 use mathlib.Core.Path.{◌≡◌, refl}
-use mathlib.Core.Bool.{Bool, true, false, cond}
 use mathlib.Core.List.{[], ◌∷◌}
 use Prim.Native.Nat.{ℕ, ◌+◌, ◌*◌, ◌-◌, ◌≤◌, ◌<◌}
 use native.Mathlib.Omega.{arith}
@@ -31,15 +30,6 @@ module _ (end v : Kmh) where
   pub grown-high : 110 < v.0 → end.0 ≤ v.0 → grown_to end v ≡ end.0 - 110
   unfolding grown_to
   grown-high h i = simp (lt-leb _ _ h, le-ltb _ _ i)
-
-  pub grown-small : grown_to end v ≤ end.0
-  unfolding grown_to
-  grown-small = go (leb v.0 110) (ltb v.0 end.0) refl
-    where
-      go : (a b : Bool) → ltb v.0 end.0 ≡ b → cond a 0 (cond b (v.0 - 110) (end.0 - 110)) ≤ end.0
-      go true b e = omega arith
-      go false true e = let l = ltb-true v.0 end.0 e in omega arith
-      go false false e = omega arith
 
 -- a difference of two whole numbers over d
 less : (a b d : ℕ) → b ≤ a → 0 < d → (a over d) -q (b over d) ≈q (a - b) over d

@@ -1,20 +1,22 @@
 // The three speed ceilings of a permitted speed. Document 01, "Ceilings"; document 002, section 9.
-// Takes: the units of `train`. Gives: the operation `ceilings`, also to `query`; its answer and what is promised of it to
+// Takes: units and refusals of `train`. Gives: the operation `ceilings`, also to `query`; its answer and what is promised of it to
 // `ceilings_stored`.
 #![tactic(auto)]
 
 ghost use Rattle.std.specs.Prelude.{◌≡◌, ◌≤◌};
-ghost use Rattle.ceilings.specs.Ceilings.{Narrow, grown_to, ceiling_of};
+ghost use Rattle.train.specs.Number.{number};
+ghost use Rattle.ceilings.specs.Ceilings.{Narrow, grown_to, ceiling_of, refused};
 ghost use Rattle.ceilings.specs.Answer.{CeilingAnswers};
 
 use train::Kmh;
+use train::refusal::Refusal;
 
 // A speed in 120ths of a km/h.
 #[repr(C)]
 #[derive(Clone, Copy)]
 pub struct Ceiling(pub u32);
 
-// The ceilings for W, SBI and EBI, or a refusal and zeros.
+// The ceilings for W, SBI and EBI, or a refusal and zeros, since C reads it.
 #[repr(C)]
 #[derive(Clone, Copy)]
 pub struct Limits {
@@ -51,53 +53,52 @@ const EBI: Band = Band {
     end: Kmh(210),
 };
 
-// For how many km/h above 110 the ceiling has grown.
-fn grown(v: Kmh, end: Kmh) -> Kmh
-    requires { 110 ≤ end.0 }
-    ensures { result.0 ≡ grown_to end v }
-{
-    let fast = v.0;
-    let last = end.0;
-    if fast <= 110 {
-        return Kmh(0);
+impl Band {
+    // For how many km/h above 110 the ceiling has grown.
+    #[tactic(auto, unfolding(crate::specs::Ceilings::grown_to))]
+    fn grown(self, v: Kmh) -> u32
+        requires { Narrow self }
+        ensures { (result ≡ grown_to self.end v) × (result ≤ 220) }
+    {
+        v.0.clamp(110, self.end.0) - 110
     }
-    if fast < last {
-        let part = fast - 110;
-        return Kmh(part);
+
+    // The ceiling of a permitted speed.
+    #[tactic(auto, unfolding(crate::specs::Ceilings::ceiling_of))]
+    fn ceiling(self, v: Kmh) -> Ceiling
+        requires { (v.0 ≤ 330) × Narrow self }
+        ensures { result ≡ ceiling_of self v }
+    {
+        Ceiling(120 * v.0 + self.least + self.growth * self.grown(v))
     }
-    let whole = last - 110;
-    Kmh(whole)
 }
 
-// One ceiling of a permitted speed.
-fn ceiling_of(v: Kmh, b: Band) -> Ceiling
-    requires { (v.0 ≤ 330) × Narrow b }
-    ensures { result ≡ ceiling_of b v }
-{
-    let end = b.end;
-    let above = grown(v, end);
-    let more = b.growth * above.0;
-    let base = 120 * v.0 + b.least;
-    let sum = base + more;
-    Ceiling(sum)
+// A refusal, with zeros.
+impl From<Refusal> for Limits {
+    ghost from_gives = { λ r limits. limits ≡ record refused { refusal = number r } };
+
+    fn from(refusal: Refusal) -> Limits {
+        Limits {
+            refusal: refusal.number(),
+            w: Ceiling(0),
+            sbi: Ceiling(0),
+            ebi: Ceiling(0),
+        }
+    }
 }
 
 // The three ceilings of a permitted speed of 0 to 330 km/h.
+#[tactic(auto, using(crate::proofs::Rules::answers))]
 pub fn ceilings(permitted: Kmh) -> Limits
     ensures { CeilingAnswers permitted result }
 {
     if permitted.0 > 330 {
-        return Limits {
-            refusal: 3,
-            w: Ceiling(0),
-            sbi: Ceiling(0),
-            ebi: Ceiling(0),
-        };
+        return Limits::from(Refusal::Speed);
     }
     Limits {
         refusal: 0,
-        w: ceiling_of(permitted, W),
-        sbi: ceiling_of(permitted, SBI),
-        ebi: ceiling_of(permitted, EBI),
+        w: W.ceiling(permitted),
+        sbi: SBI.ceiling(permitted),
+        ebi: EBI.ceiling(permitted),
     }
 }

@@ -1,7 +1,7 @@
 -- What the code finds out, refusal by refusal, makes the answer of the definition; an accepted one keeps the third demand.
 use mathlib.Core.Path.{◌≡◌, refl, sym, ◌∙◌}
 use mathlib.Core.Bool.{Bool, true, false, not, cond}
-use mathlib.Core.List.{List, ◌++◌}
+use mathlib.Core.List.{List}
 use mathlib.Core.Logic.{inl}
 use Prim.Native.Nat.{ℕ, ◌<◌}
 use native.Mathlib.Omega.{arith}
@@ -10,82 +10,34 @@ use lib.Dec.{lit<}
 use Rattle.train.specs.declared.Train.{Train}
 use Rattle.train.specs.declared.Coefficients.{Coefficients}
 use Rattle.train.specs.Units.{kmh}
-use Rattle.train.specs.Refusal.{Refusal, first_of, train_refusals, coefficient_refusals}
+use Rattle.train.specs.Refusal.{first_of}
 use Rattle.train.specs.Judged.{Judged}
 use Rattle.train.proofs.Judging.{Judges, ◌then◌, no_more, told, before_more, behind-kept, at_least, below, weight-settles, length-settles, top-settles, coefficients-settle}
 use Rattle.train.proofs.Lending.{refused-demand, given-demand}
-use Rattle.train.proofs.Refusals.{Rising, rising-before, train-rising, coefficients-rising, first-after, first-before}
+use Rattle.train.proofs.Refusals.{Rising, rising-before, first-after, first-before}
 use Rattle.step_braking.specs.Braking.{strong}
 use Rattle.ceilings.specs.Ceilings.{limits_of}
 use Rattle.ceilings.proofs.Agrees.{as-printed}
-use Rattle.ramp.specs.Answer.{time_refusals}
 use Rattle.ramp.proofs.Judging.{times-settles}
 use Rattle.sheet.specs.Sheet.{line_of}
 use Rattle.sheet.proofs.Kept.{sheet-settles}
 use Rattle.query_way.specs.declared.Way.{Way}
 use Rattle.query_way.specs.declared.Governing.{Governing}
-use Rattle.query_way.specs.declared.Found.{Found}
-use Rattle.query_way.specs.declared.Found.TheVariants.{Refused, Ready}
-use Rattle.query_way.specs.Way.{way_refusals, Leads}
-use Rattle.query_way.specs.Find.{Finds}
+use Rattle.query_way.specs.Way.{Leads}
 use Rattle.query_release.specs.Release.{weak_past}
 use Rattle.query_permitted.specs.Permitted.{permitted_of}
 use Rattle.query.specs.declared.Answer.{Answer}
 use Rattle.query.specs.Demand.{past_at}
 use Rattle.query.specs.Answer.{refused, release, brake_refusals, accepted, inputs, way_to, governing_to, query_refusals, answer_of, QueryAnswers}
 use Rattle.query.specs.Rules.{TooWeak, input_rules, brake_rules, query_rules}
-use Rattle.query.specs.Begin.{Fit, Starts, answer_at, answer_on}
+use Rattle.query.specs.Begin.{Fit, answer_at, answer_on}
 use Rattle.query.proofs.Third.{fit-ahead, creeps, kept}
 use Rattle.query.proofs.Brake.{weak-past, weak-ahead}
-pub use Rattle.query.proofs.Cases.{as-permitted, as-released}
+pub use Rattle.query.proofs.Cases.{refuses, as-permitted, as-released}
 
 -- the refusals go by the one order, so the first that applies is the answer (the train's `soonest` and `applies`)
 pub query-rising : (k : Coefficients) (t : Train) (tm tr : ℕ) (s : List ℕ) (signal head : ℕ) → Rising 1 (query_refusals k t tm tr s signal head)
 query-rising k t tm tr s signal head = (tt, (tt, (tt, (tt, (tt, (tt, (tt, (tt, (tt, (tt, (tt, (tt, (tt, (tt, (tt, (tt, (tt, (tt, (tt, (tt, (tt, (tt, (tt, (tt, (tt, (tt, (tt, (tt, tt))))))))))))))))))))))))))))
-
-pub times-rising : (tm tr : ℕ) → Rising 1 (time_refusals tm tr)
-times-rising tm tr = (tt, (tt, (tt, tt)))
-
-module _ (k : Coefficients) (t : Train) (tm tr : ℕ) (s : List ℕ) (signal head : ℕ) where
-  -- what is looked at behind the times, and behind the train
-  abbrev lastly : List Refusal
-  lastly = coefficient_refusals k ++ way_refusals s signal head
-
-  abbrev next : List Refusal
-  next = time_refusals tm tr ++ lastly
-
-  pub by-train : (n : ℕ) → 0 < n → n ≡ first_of (train_refusals t) → first_of (inputs k t tm tr s signal head) ≡ n
-  by-train n l e = rw e (first-before (train_refusals t) next (λ z. omega arith))
-
-  module _ (z : first_of (train_refusals t) ≡ 0) where
-    later : first_of (inputs k t tm tr s signal head) ≡ first_of next
-    later = first-after 0 (train_refusals t) next (train-rising t) z
-
-    pub by-times : (n : ℕ) → 0 < n → n ≡ first_of (time_refusals tm tr) → first_of (inputs k t tm tr s signal head) ≡ n
-    by-times n l e = later ∙ (first-before (time_refusals tm tr) lastly (λ z. omega arith) ∙ sym e)
-
-    module _ (late : first_of (time_refusals tm tr) ≡ 0) where
-      latest : first_of (inputs k t tm tr s signal head) ≡ first_of lastly
-      latest = later ∙ first-after 0 (time_refusals tm tr) lastly (times-rising tm tr) late
-
-      pub by-coefficients : (n : ℕ) → 0 < n → n ≡ first_of (coefficient_refusals k) → first_of (inputs k t tm tr s signal head) ≡ n
-      by-coefficients n l e = latest ∙ (first-before (coefficient_refusals k) (way_refusals s signal head) (λ z. omega arith) ∙ sym e)
-
-      module _ (own : first_of (coefficient_refusals k) ≡ 0) where
-        by_way : first_of (inputs k t tm tr s signal head) ≡ first_of (way_refusals s signal head)
-        by_way = latest ∙ first-after 0 (coefficient_refusals k) (way_refusals s signal head) (coefficients-rising k) own
-
-        pub started : (r : Found) → Finds s signal head t.length.0 r → Starts k t tm tr s signal head r
-        started (Refused n) i = (i.says, by_way ∙ i.refused)
-        started (Ready w n) i =
-            let y = i.says in
-            record {
-              accepted = by_way ∙ i.refused;
-              way = y.way;
-              governing = y.governing;
-              leads = y.leads;
-              fit = record { train = z; times = late; coefficients = own; within = (coefficients-settle k).yes own; ahead = y.ahead; past = y.past };
-            }
 
 module _ (k : Coefficients) (t : Train) (tm tr : ℕ) (s : List ℕ) (signal head : ℕ) where
   abbrev Answers : Answer → Type 0

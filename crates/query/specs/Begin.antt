@@ -1,5 +1,5 @@
 -- What the code knows before it climbs, and what it answers step by step.
-use Rattle.std.specs.Prelude.{◌≡◌, cond, List, ℕ, ◌≤◌, ◌<◌}
+use Rattle.std.specs.Prelude.{◌≡◌, cond, List, ℕ, ◌≤◌, ◌<◌, Result, Ok, Err}
 use Rattle.train.specs.declared.Kmh.{Kmh}
 use Rattle.train.specs.declared.Metre.{Metre}
 use Rattle.train.specs.declared.Train.{Train}
@@ -8,6 +8,8 @@ use Rattle.train.specs.declared.Coefficients.{Coefficients}
 use Rattle.train.specs.Units.{kmh}
 use Rattle.train.specs.Gradient.{Moderate}
 use Rattle.train.specs.Coefficients.{Within}
+use Rattle.train.specs.declared.refusal.Refusal.{Refusal}
+use Rattle.train.specs.Number.{number}
 use Rattle.train.specs.Refusal.{first_of, train_refusals, coefficient_refusals}
 use Rattle.step_braking.specs.Braking.{strong}
 use Rattle.ramp.specs.Answer.{time_refusals}
@@ -15,13 +17,23 @@ use Rattle.sheet.specs.Sheet.{line_of}
 use Rattle.query_way.specs.declared.Way.{Way}
 use Rattle.query_way.specs.declared.Governing.{Governing}
 use Rattle.query_way.specs.Way.{Leads}
-use Rattle.query_way.specs.declared.Found.{Found}
-use Rattle.query_way.specs.declared.Found.TheVariants.{Refused, Ready}
 use Rattle.query_release.specs.Release.{weak_past}
-use Rattle.query_permitted.specs.Permitted.{permitted_of, mark_of}
+use Rattle.query_permitted.specs.Permitted.{on_curve, on_release, permitted_of, mark_of}
 use Rattle.query.specs.declared.Answer.{Answer}
+use Rattle.query.specs.declared.Mark.{Mark}
+use Rattle.query.specs.declared.Mark.TheVariants.{Curve, Release}
 use Rattle.query.specs.Demand.{past_at}
 use Rattle.query.specs.Answer.{refused, answered, release, inputs, way_to, governing_to}
+
+-- the mark as the paper's number
+abbrev pub number_of : Mark → ℕ
+number_of Curve = on_curve
+number_of Release = on_release
+
+-- the record that C reads: the answer, or a refusal and zeros
+abbrev pub record_of : Result Answer Refusal → Answer
+record_of (Ok a) = a
+record_of (Err r) = refused (number r)
 
 -- the train, the times, the coefficients and the way's gradients are accepted
 pub record Fit (k : Coefficients) (t : Train) (tm tr : ℕ) (w : Way) : Type 0 where
@@ -47,9 +59,9 @@ module _ (k : Coefficients) (t : Train) (tm tr : ℕ) (s : List ℕ) (signal hea
     pub leads : Leads (line_of s) signal head t.length.0 w n
     pub fit : Fit k t tm tr w
 
-  abbrev pub Starts : Found → Type 0
-  Starts (Refused n) = (0 < n) × (first_of (inputs k t tm tr s signal head) ≡ n)
-  Starts (Ready w n) = IsReady w n
+  abbrev pub Starts : Result (Way × Governing) Refusal → Type 0
+  Starts (Ok (w, n)) = IsReady w n
+  Starts (Err r) = (0 < number r) × (first_of (inputs k t tm tr s signal head) ≡ number r)
 
 -- the answer with a release speed, and on a way
 module _ (k : Coefficients) (t : Train) where

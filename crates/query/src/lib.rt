@@ -6,19 +6,20 @@
 
 ghost use Rattle.std.specs.Prelude.{◌≡◌};
 ghost use Rattle.train.specs.Coefficients.{Within};
+ghost use Rattle.train.specs.Number.{number};
 ghost use Rattle.query.specs.Answer.{refused, answered, QueryAnswers};
-ghost use Rattle.query.specs.Begin.{Starts, Fit, FitAhead, answer_at, answer_on};
+ghost use Rattle.query.specs.Begin.{number_of, record_of, Starts, Fit, FitAhead, answer_at, answer_on};
 
 use ceilings::Ceiling;
 use query_permitted::Permitted;
-use query_release::Release;
-use query_way::{Found, Governing, Way};
+use query_way::{Governing, Way};
 use ramp_motion::Overrun;
-use train::{Coefficients, Gradient, Kmh, Metre, Train};
+use train::refusal::Refusal;
+use train::{Coefficients, Kmh, Metre, Train};
 
 // The release speed, the permitted speed, what holds it (mark 1: the curve, 2: the release speed), the ceilings of the permitted
 // speed, and the numbers of the stretches that govern the overlap (65,535 where it has no length) and the way ahead; or a refusal and
-// zeros.
+// zeros. C reads it: hence numbers for refusal and mark.
 #[repr(C)]
 #[derive(Clone, Copy)]
 pub struct Answer {
@@ -33,45 +34,52 @@ pub struct Answer {
     pub ahead_stretch: u32,
 }
 
+// What holds the permitted speed, each case under its number.
+#[derive(Clone, Copy)]
+enum Mark {
+    Curve = 1,
+    Release = 2,
+}
+
 // A refusal, with zeros.
-fn refused_with(n: u32) -> Answer
-    ensures { result ≡ refused n }
-{
-    Answer {
-        refusal: n,
-        release: Kmh(0),
-        permitted: Kmh(0),
-        mark: 0,
-        w: Ceiling(0),
-        sbi: Ceiling(0),
-        ebi: Ceiling(0),
-        overlap_stretch: 0,
-        ahead_stretch: 0,
+impl From<Refusal> for Answer {
+    ghost from_gives = { λ r answer. answer ≡ refused (number r) };
+
+    fn from(r: Refusal) -> Answer {
+        Answer {
+            refusal: r.number(),
+            release: Kmh(0),
+            permitted: Kmh(0),
+            mark: 0,
+            w: Ceiling(0),
+            sbi: Ceiling(0),
+            ebi: Ceiling(0),
+            overlap_stretch: 0,
+            ahead_stretch: 0,
+        }
     }
 }
 
 // An answer, with the ceilings of the permitted speed.
-fn given(governing: Governing, release: Kmh, permitted: Kmh, mark: u32) -> Answer
-    ensures { result ≡ answered governing release permitted mark }
+fn given(governing: Governing, release: Kmh, permitted: Kmh, mark: Mark) -> Answer
+    ensures { result ≡ answered governing release permitted (number_of mark) }
 {
     let limits = ceilings::ceilings(permitted);
-    let w = limits.w;
-    let sbi = limits.sbi;
-    let ebi = limits.ebi;
     Answer {
         refusal: 0,
-        release: release,
-        permitted: permitted,
-        mark: mark,
-        w: w,
-        sbi: sbi,
-        ebi: ebi,
+        release,
+        permitted,
+        mark: mark as u32,
+        w: limits.w,
+        sbi: limits.sbi,
+        ebi: limits.ebi,
         overlap_stretch: governing.overlap,
         ahead_stretch: governing.ahead,
     }
 }
 
 // What stands before every answer: the train, the times, the coefficients, the sheet, the signal and the head.
+// k, train, tm and tr stand side by side here and below and are no struct, as in `Starts`, `Fit` and `QueryAnswers`.
 fn start(
     k: Coefficients,
     train: Train,
@@ -80,21 +88,12 @@ fn start(
     s: &[u8],
     signal: u32,
     head: Metre,
-) -> Found
+) -> Result<(Way, Governing), Refusal>
     ensures { Starts k train tm tr s.now signal head.0 result }
 {
-    let bad = train::refusal::of_train(train);
-    if bad > 0 {
-        return Found::Refused(bad);
-    }
-    let late = ramp::of_times(tm, tr);
-    if late > 0 {
-        return Found::Refused(late);
-    }
-    let outside = train::refusal::of_coefficients(k);
-    if outside > 0 {
-        return Found::Refused(outside);
-    }
+    train::refusal::of_train(train)?;
+    ramp::of_times(tm, tr)?;
+    train::refusal::of_coefficients(k)?;
     query_way::find(s, signal, head, train.length)
 }
 
@@ -102,19 +101,16 @@ fn start(
 fn answer_at(
     k: Coefficients,
     train: Train,
-    ahead: Gradient,
-    distance: Metre,
+    w: Way,
     governing: Governing,
     release: Kmh,
-) -> Answer
-    requires { Within k × FitAhead train ahead release }
-    ensures { result ≡ answer_at k train ahead distance governing release }
+) -> Result<Answer, Refusal>
+    requires { Within k × FitAhead train w.ahead release }
+    ensures { record_of result ≡ answer_at k train w.ahead w.distance governing release }
 {
-    let permitted = query_permitted::speed(k, train, ahead, release, distance);
-    match permitted {
-        Permitted::Weak => refused_with(10),
-        Permitted::Release => given(governing, release, release, 2),
-        Permitted::Curve(v) => given(governing, release, v, 1),
+    match query_permitted::speed(k, train, w.ahead, release, w.distance)? {
+        Permitted::Release => Ok(given(governing, release, release, Mark::Release)),
+        Permitted::Curve(v) => Ok(given(governing, release, v, Mark::Curve)),
     }
 }
 
@@ -126,28 +122,35 @@ fn answer_on(
     tr: u32,
     w: Way,
     governing: Governing,
-) -> Answer
+) -> Result<Answer, Refusal>
     requires { Fit k train tm tr w }
-    ensures { result ≡ answer_on k train tm tr w governing }
+    ensures { record_of result ≡ answer_on k train tm tr w governing }
 {
-    let inertia = k.inertia;
-    let top = train.top;
-    let ahead = w.ahead;
-    let distance = w.distance;
-    let overlap = w.overlap;
-    let past = w.past;
     let o = Overrun {
         weight: train.weight,
-        gradient: past,
+        gradient: w.past,
         v: Kmh(1),
-        tm: tm,
-        tr: tr,
+        tm,
+        tr,
     };
-    let release = query_release::speed(inertia, o, overlap, top);
-    match release {
-        Release::Weak => refused_with(10),
-        Release::Speed(v) => answer_at(k, train, ahead, distance, governing, v),
-    }
+    let release = query_release::speed(k.inertia, o, w.overlap, train.top)?;
+    answer_at(k, train, w, governing, release)
+}
+
+// The answer or a refusal.
+fn outcome(
+    k: Coefficients,
+    train: Train,
+    tm: u32,
+    tr: u32,
+    s: &[u8],
+    signal: u32,
+    head: Metre,
+) -> Result<Answer, Refusal>
+    ensures { QueryAnswers k train tm tr s.now signal head.0 (record_of result) s.now }
+{
+    let (w, governing) = start(k, train, tm, tr, s, signal, head)?;
+    answer_on(k, train, tm, tr, w, governing)
 }
 
 // The query: the train's coefficients, TM and TR in hundredths of a second, a line sheet, a signal's number from 0, the place of
@@ -163,9 +166,5 @@ pub fn query(
 ) -> Answer
     ensures { QueryAnswers k train tm tr s.now signal head.0 result s.now }
 {
-    let found = start(k, train, tm, tr, s, signal, head);
-    match found {
-        Found::Refused(n) => refused_with(n),
-        Found::Ready(w, n) => answer_on(k, train, tm, tr, w, n),
-    }
+    outcome(k, train, tm, tr, s, signal, head).unwrap_or_else(Answer::from)
 }

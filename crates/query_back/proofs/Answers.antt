@@ -2,7 +2,7 @@
 use mathlib.Core.Path.{◌≡◌, refl, sym, ap, ◌∙◌}
 use mathlib.Core.Bool.{Bool, true, false, cond}
 use mathlib.Core.List.{List}
-use Prim.Native.Nat.{ℕ, ◌+◌, ◌≤◌, ◌<◌}
+use Prim.Native.Nat.{ℕ, ◌+◌, ◌<◌}
 use native.Mathlib.Omega.{arith}
 use borrow.Author.Tests.{ne_eqb}
 use lib.Dec.{leb}
@@ -19,7 +19,7 @@ use Rattle.query_way.specs.Way.{tail_of}
 use Rattle.query_way.proofs.Ways.{tail-behind}
 use Rattle.query_back.specs.Answer.{refused, back_refusals, back_of, BackAnswers}
 use Rattle.query_back.proofs.Judging.{back-judges}
-pub use Rattle.query_back.proofs.Judging.{too_long, by-the-sheet}
+pub use Rattle.query_back.proofs.Judging.{by-the-length, by-the-sheet}
 
 module _ (s : List ℕ) (signal head length : ℕ) where
   abbrev first : ℕ

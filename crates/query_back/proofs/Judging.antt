@@ -1,10 +1,15 @@
 -- The conditions decide by the rules, and which refusal it is.
-use mathlib.Core.Path.{◌≡◌}
+use mathlib.Core.Path.{◌≡◌, sym, ◌∙◌}
 use mathlib.Core.List.{List}
-use Prim.Native.Nat.{ℕ, ◌≤◌, ◌<◌}
-use borrow.Author.Tests.{lt-ltb, le-ltb}
-use Rattle.train.specs.Refusal.{first_of}
+use Prim.Native.Nat.{ℕ}
+use native.Mathlib.Omega.{arith}
+use Rattle.train.specs.declared.refusal.Refusal.{Refusal}
+use Rattle.train.specs.Number.{number}
+use Rattle.train.specs.Refusal.{first_of, length_refusals}
+use Rattle.train.proofs.Numbered.{numbered}
+use Rattle.train.proofs.Refusals.{first-before, first-after}
 use Rattle.train.proofs.Judging.{Judges, ◌then◌, length-settles}
+use Rattle.query_way.specs.Way.{way_refusals}
 use Rattle.query_way.specs.Find.{refusal}
 use Rattle.query_way.proofs.Ways.{way-judges}
 use Rattle.query_back.specs.Answer.{back_refusals, back_rules}
@@ -17,8 +22,8 @@ module _ (s : List ℕ) (signal head length : ℕ) where
   back-judges = length-settles length then way-judges s signal head
 
   -- which it is
-  pub too_long : 1000 < length → first ≡ 2
-  too_long h = simp (lt-ltb 1000 length h)
+  pub by-the-length : (e : Refusal) → number e ≡ first_of (length_refusals length) → first ≡ number e
+  by-the-length r e = let h = numbered r in first-before (length_refusals length) (way_refusals s signal head) (λ z. omega (arith, e, z)) ∙ sym e
 
-  pub by-the-sheet : length ≤ 1000 → first ≡ refusal s signal head
-  by-the-sheet h = simp (le-ltb 1000 length h)
+  pub by-the-sheet : first_of (length_refusals length) ≡ 0 → first ≡ refusal s signal head
+  by-the-sheet = first-after 0 (length_refusals length) (way_refusals s signal head) (tt, tt)

@@ -1,7 +1,9 @@
 -- Document 02, Cards 3 and 4: what a step of the walk from a signal towards a train's tail answers, and what it promises.
-use Rattle.std.specs.Prelude.{◌≡◌, cond, List, [], ◌∷◌, ◌++◌, ℕ, eqb, pos}
+use Rattle.std.specs.Prelude.{◌≡◌, cond, List, [], ◌∷◌, ◌++◌, ℕ, eqb, pos, Result, Ok, Err}
 use Rattle.train.specs.Gradient.{gradient_of}
 use Rattle.train.specs.Refusal.{Refusal, first_of, length_refusals}
+use Rattle.train.specs.declared.refusal.Refusal.{Refusal as Refused}
+use Rattle.train.specs.Number.{number}
 use Rattle.train.specs.Judged.{Rule, Judged, length_rule}
 use Rattle.train.specs.Lent.{FirstDemand}
 use Rattle.sheet.specs.Sheet.{line_of}
@@ -12,6 +14,11 @@ use Rattle.query_way.specs.Way.{way_refusals, way_rules, tail_of, Behind}
 -- a refusal, with zeros
 abbrev pub refused : ℕ → Back
 refused n = record { refusal = n; end = 0; stretch = 0; gradient = pos 0; least = pos 0; least_stretch = 0 }
+
+-- a step or a refusal, as the record that C reads
+abbrev pub as_read : Result Back Refused → Back
+as_read (Ok r) = r
+as_read (Err e) = refused (number e)
 
 module _ (s : List ℕ) (signal head length : ℕ) where
   -- 2, 7, 8, 9

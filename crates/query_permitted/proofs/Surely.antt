@@ -1,19 +1,13 @@
 -- What the bounds show of several speeds at once.
 use Prim.Native.Nat.{ℕ, ◌+◌, ◌*◌, ◌^◌, ◌≤◌}
-use native.Mathlib.Nat.{le_trans}
 use native.Mathlib.Omega.{arith}
 use borrow.Author.Tests.{le-leb}
-use Rattle.train.specs.declared.Kmh.{Kmh}
 use Rattle.step_braking.specs.declared.Course.{Course}
-use Rattle.step_braking.specs.Plan.{Enough, Near}
+use Rattle.step_braking.specs.Plan.{Enough}
 use Rattle.step_curve.specs.declared.Curve.TheVariants.{P}
 use Rattle.step_curve.specs.Plan.{a_of, sum_at}
 use Rattle.query_climb.specs.Sure.{Sure}
-use Rattle.query_permitted.specs.Find.{fits_by, Climbing}
-
-module _ (c : Course) (v0 top : Kmh) (is : Climbing c v0 top) where
-  pub near : (v : ℕ) → v0.0 ≤ v → v ≤ top.0 → Near v v0.0
-  near v h k = record { high = le_trans k is.high; ahead = h }
+use Rattle.query_permitted.specs.Find.{fits_by}
 
 -- what the test of the speeds after u, up to w, says
 pub sure-of : (c : Course) (v0 u w d : ℕ) → ((v : ℕ) → u + 1 ≤ v → v ≤ w → Enough c v v0 × (sum_at P c v v0 ≤ 81 * 10 ^ 20 * a_of c v v0 * (1000 * d))) → Sure (fits_by c v0 d) u w

@@ -16,12 +16,12 @@ ghost use Rattle.query_permitted.specs.Find.{fits_by, Climbing};
 
 use step_braking::{Course, strength};
 use step_curve::Curve;
+use train::refusal::Refusal;
 use train::{Coefficients, Gradient, Kmh, Metre, Train};
 
-// That the brake is too weak on the way; that the release speed itself does not fit; or the last speed that does.
+// That the release speed itself does not fit; or the last speed that does.
 #[derive(Clone, Copy)]
 pub enum Permitted {
-    Weak,
     Release,
     Curve(Kmh),
 }
@@ -31,10 +31,8 @@ fn fits(c: Course, v: Kmh, v0: Kmh, d: Metre) -> bool
     requires { Small c × Near v.0 v0.0 }
     ensures { result ≡ fits_by c v0.0 d.0 v.0 }
 {
-    if !strength::is_strong(c, v, v0) {
-        return false;
-    }
-    step_curve::fits(Curve::P, c, step_curve::terms_at(c, v, v0), d)
+    strength::is_strong(c, v, v0)
+        && step_curve::fits(Curve::P, c, step_curve::terms_at(c, v, v0), d)
 }
 
 // Whether each of the next speeds after low surely fits.
@@ -42,65 +40,53 @@ fn next_sure(c: Course, v0: Kmh, d: Metre, low: u32, stride: u32, end: u32) -> b
     requires { Climbing c v0 (kmh end) × (v0.0 ≤ low) × (low ≤ end) × (0 < stride) }
     ensures { result ≡ true → Sure (fits_by c v0.0 d.0) low (low + stride) × (low + stride ≤ end) }
 {
-    if stride > end - low {
-        return false;
-    }
-    let first = low + 1;
-    let last = low + stride;
-    step_quick::surely_fit(c, Kmh(first), Kmh(last), v0, d)
+    stride <= end - low && step_quick::surely_fit(c, Kmh(low + 1), Kmh(low + stride), v0, d)
 }
 
 // A speed up to which the climb need not ask: the bounds show many speeds at once, ever fewer where the distance gets short.
+// A stride serves as often as it can, so a `for` over the strides would need a second loop in it.
 fn surely_fitting(c: Course, v0: Kmh, d: Metre, top: Kmh) -> Kmh
     requires { Climbing c v0 top }
     ensures { Sure (fits_by c v0.0 d.0) v0.0 result.0 × (v0.0 ≤ result.0) × (result.0 ≤ top.0) }
 {
-    let last = top.0;
     let mut low = v0.0;
-    let mut stride: u32 = 64;
+    let mut stride = 64;
     while stride > 0 {
-        if next_sure(c, v0, d, low, stride, last) {
+        if next_sure(c, v0, d, low, stride, top.0) {
             low += stride;
         } else {
-            stride = stride / 2;
+            stride /= 2;
         }
     }
     Kmh(low)
 }
 
-// The climb from v0, which fits. Each speed up to the sure one does too, so the loop, and with it the wide numbers, begins there.
+// The climb from v0, which fits. Each speed up to the sure one does too, so the climb, and with it the wide numbers, begins there.
 fn last_fitting(c: Course, v0: Kmh, d: Metre, top: Kmh) -> Kmh
     requires { Climbing c v0 top }
     ensures { result.0 ≡ climb (fits_by c v0.0 d.0) v0.0 (top.0 - v0.0) }
 {
-    let end = top.0;
     let surely = surely_fitting(c, v0, d, top);
-    let mut v = surely.0;
-    let best = loop {
-        if v >= end {
-            break end;
-        }
-        let next = v + 1;
-        if !fits(c, Kmh(next), v0, d) {
-            break v;
-        }
-        v = next;
-    };
-    Kmh(best)
+    query_climb::climb(surely, top, |v| fits(c, v, v0, d))
 }
 
-// The permitted speed, d metres before the signal, with v0 the release speed.
-pub fn speed(k: Coefficients, train: Train, g: Gradient, v0: Kmh, d: Metre) -> Permitted
+// The permitted speed, d metres before the signal, with v0 the release speed; or refusal 10: the brake is too weak on the way.
+pub fn speed(
+    k: Coefficients,
+    train: Train,
+    g: Gradient,
+    v0: Kmh,
+    d: Metre,
+) -> Result<Permitted, Refusal>
     requires { Within k × (train.weight ≤ 160) × (train.length.0 ≤ 1000) × Moderate g × (v0.0 ≤ train.top.0) × (train.top.0 ≤ 330) }
     ensures { Permits k train g v0 d result }
 {
-    let top = train.top;
     let c = step_course::course_of(k, train, g);
     if !strength::is_strong(c, v0, v0) {
-        return Permitted::Weak;
+        return Err(Refusal::WeakBrake);
     }
     if !fits(c, v0, v0, d) {
-        return Permitted::Release;
+        return Ok(Permitted::Release);
     }
-    Permitted::Curve(last_fitting(c, v0, d, top))
+    Ok(Permitted::Curve(last_fitting(c, v0, d, train.top)))
 }

@@ -1,4 +1,5 @@
 -- Whether the brake is strong enough along the overlap: it is at one speed just where it is at every other. What is found then.
+use Rattle.std.proofs.Common.{Ok, Err}
 use mathlib.Core.Path.{◌≡◌, refl, sym, ◌∙◌}
 use mathlib.Core.Bool.{Bool, true, false, not, cond}
 use Prim.Native.Nat.{ℕ, ◌≤◌, ◌<◌, min}
@@ -8,15 +9,16 @@ use lib.Dec.{eqb}
 use Rattle.train.specs.declared.Kmh.{Kmh}
 use Rattle.train.specs.declared.Metre.{Metre}
 use Rattle.train.specs.declared.Inertia.{Inertia}
+use Rattle.train.specs.declared.refusal.Refusal.{Refusal}
+use Rattle.train.specs.Number.{number}
 use Rattle.train.specs.Refusal.{first_of}
 use Rattle.ramp_motion.specs.declared.Overrun.{Overrun}
 use Rattle.ramp_motion.specs.Motion.{dp}
 use Rattle.ramp.specs.Answer.{at_speed, inputs, strong, ramp_refusals}
-use Rattle.ramp.proofs.Answers.{by-none}
+use Rattle.ramp.proofs.Answers.{by-weakness, by-none}
 use Rattle.ramp.proofs.Always.{is-strong}
 use Rattle.query_climb.specs.Climb.{climb}
 use Rattle.query_climb.proofs.Climbing.{highest}
-use Rattle.query_release.specs.declared.Release.TheVariants.{Weak, Speed}
 use Rattle.query_release.specs.Release.{stops_within, release_of, weak_past, Releases}
 
 module _ (k : Inertia) (o : Overrun) where
@@ -54,12 +56,12 @@ module _ (k : Inertia) (o : Overrun) where
         pub accepted-past : weak_past k o overlap ≡ false → refusal 1 ≡ 0
         accepted-past e = by-none k (at_speed o 1) z (same-strength 1 ∙ not-false (strong k o) (sym weak-is ∙ e))
 
-        pub weak-past : 0 < refusal 1 → weak_past k o overlap ≡ true
+        pub weak-past : 0 < refusal 1 → (weak_past k o overlap ≡ true) × (refusal 1 ≡ 10)
         weak-past r = go (strong k o) refl
           where
-            go : (b : Bool) → strong k o ≡ b → weak_past k o overlap ≡ true
+            go : (b : Bool) → strong k o ≡ b → (weak_past k o overlap ≡ true) × (refusal 1 ≡ 10)
             go true e = absurd (let i : refusal 1 ≡ 0 = by-none k (at_speed o 1) z (same-strength 1 ∙ e) in omega arith)
-            go false e = weak-is ∙ rw e refl
+            go false e = (weak-is ∙ rw e refl, by-weakness k (at_speed o 1) z (same-strength 1 ∙ e))
 
     module _ (top : Kmh) where
       at_most : release_of k o overlap top ≤ min 100 top.0
@@ -70,8 +72,8 @@ module _ (k : Inertia) (o : Overrun) where
           go true n = omega arith
           go false n = omega (arith, (highest (stops_within k o overlap) 0 n).to)
 
-      pub found-weak : weak_past k o overlap ≡ true → Releases k o overlap top Weak
-      found-weak e = record { says = rw e refl; low = omega arith; slow = omega arith }
+      pub found-weak : (r : Refusal) → weak_past k o overlap ≡ true → number r ≡ 10 → Releases k o overlap top (Err r)
+      found-weak r e n = record { says = rw (e, n) refl; low = omega arith; slow = omega arith }
 
-      pub found-speed : (v : Kmh) → weak_past k o overlap ≡ false → v.0 ≡ release_of k o overlap top → Releases k o overlap top (Speed v)
+      pub found-speed : (v : Kmh) → weak_past k o overlap ≡ false → v.0 ≡ release_of k o overlap top → Releases k o overlap top (Ok v)
       found-speed v e h = record { says = rw (e, h) refl; low = omega (arith, at_most); slow = omega (arith, at_most) }

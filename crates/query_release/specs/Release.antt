@@ -1,18 +1,18 @@
 -- Document 01, "Approach": the release speed, at which a train may creep past a closed signal: braked there, it stops within the overlap.
-use Rattle.std.specs.Prelude.{◌≡◌, Bool, not, ◌&&◌, cond, ℕ, ◌*◌, min, ◌≤◌, leb, ltb, eqb}
+use Rattle.std.specs.Prelude.{◌≡◌, Bool, not, ◌&&◌, cond, ℕ, ◌*◌, min, ◌≤◌, leb, ltb, eqb, Result, Ok, Err}
 use Rattle.train.specs.declared.Kmh.{Kmh}
 use Rattle.train.specs.declared.Metre.{Metre}
 use Rattle.train.specs.declared.Inertia.{Inertia}
+use Rattle.train.specs.declared.refusal.Refusal.{Refusal}
+use Rattle.train.specs.Number.{number}
 use Rattle.ramp_motion.specs.declared.Overrun.{Overrun}
 use Rattle.ramp.specs.Answer.{at_speed, strong, distance}
 use Rattle.query_climb.specs.Climb.{climb}
-use Rattle.query_release.specs.declared.Release.{Release}
-use Rattle.query_release.specs.declared.Release.TheVariants.{Weak, Speed}
 
 -- the paper's numbers for each case of the answer: the refusal and the release speed
-abbrev pub says_of : Release → ℕ × ℕ
-says_of Weak = (10, 0)
-says_of (Speed v) = (0, v.0)
+abbrev pub says_of : Result Kmh Refusal → ℕ × ℕ
+says_of (Ok v) = (0, v.0)
+says_of (Err r) = (number r, 0)
 
 -- o is the motion past the signal, from any speed
 module _ (k : Inertia) (o : Overrun) (overlap : Metre) where
@@ -29,7 +29,7 @@ module _ (k : Inertia) (o : Overrun) (overlap : Metre) where
   weak_past = ltb 0 overlap.0 && not (strong k o)
 
   -- these numbers are the definitions'; and the release speed is at most 100, and at most the top speed
-  pub record Releases (top : Kmh) (r : Release) : Type 0 where
+  pub record Releases (top : Kmh) (r : Result Kmh Refusal) : Type 0 where
     pub says : says_of r ≡ cond weak_past (10, 0) (0, release_of top)
     pub low : (says_of r).1 ≤ 100
     pub slow : (says_of r).1 ≤ top.0

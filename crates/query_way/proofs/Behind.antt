@@ -1,7 +1,6 @@
 -- Where the tail is, in the words beside its definition.
 use Prim.Native.Nat.{ℕ}
 use native.Mathlib.Omega.{arith}
-use borrow.Author.Tests.{lt-ltb, le-ltb}
 use mathlib.Core.Logic.{inl, inr, ⊎_elim}
 use Rattle.lists.proofs.Split.{below}
 use Rattle.query_way.specs.Way.{tail_of, Behind}

@@ -1,3 +1,4 @@
 pub mod Behind
 pub mod Ways
 pub mod Example
+mod Found

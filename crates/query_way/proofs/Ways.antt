@@ -1,11 +1,11 @@
 -- Lines that agree have the same way; a way leads to the signal, its gradients are of the sheet's span; what is turned away.
 use mathlib.Core.Path.{◌≡◌, refl, sym, ap, subst, ◌∙◌}
-use mathlib.Core.Bool.{true}
+use mathlib.Core.Bool.{true, false}
 use mathlib.Core.List.{List, [], ◌∷◌}
 use Prim.Native.Nat.{ℕ, ◌+◌, ◌-◌, ◌≤◌, ◌<◌}
 use native.Mathlib.Omega.{arith}
-use borrow.Author.Tests.{lt-leb, lt-ltb, le-ltb, ne_eqb}
-use mathlib.Core.Logic.{inl, inr, ⊎_elim}
+use borrow.Author.Tests.{lt-leb, le-leb, lt-ltb, le-ltb, ne_eqb}
+use mathlib.Core.Logic.{⊎_elim}
 use lib.Dec.{ltb, lit≤}
 use Rattle.lists.proofs.Split.{below, earlier}
 use Rattle.train.specs.declared.Metre.{Metre}
@@ -35,6 +35,12 @@ module _ (s : List ℕ) (k head : ℕ) where
   -- no such signal: the read's refusal
   pub unread : (n : ℕ) → (signal_of s k).refusal ≡ n → 0 < n → refusal s k head ≡ n
   unread n e h = let f = sym (read-refusal s k) ∙ e in first-before (read_refusals s (line_of s).signals k) (ltb ((line_of s).place k) head gives 9 ∷ []) (λ z. omega (arith, f)) ∙ f
+
+  pub no-sheet : accepted s ≡ false → refusal s k head ≡ 7
+  no-sheet e = unread 7 (read-refusal s k ∙ simp e) (omega arith)
+
+  pub no-signal : accepted s ≡ true → (line_of s).signals ≤ k → refusal s k head ≡ 8
+  no-signal e h = unread 8 (read-refusal s k ∙ simp (e, le-leb _ _ h)) (omega arith)
 
   module _ (e : accepted s ≡ true) (h : k < (line_of s).signals) where
     pub beyond : (line_of s).place k < head → refusal s k head ≡ 9
@@ -75,8 +81,10 @@ module _ (l : Line) (place overlap length : ℕ) where
         none = λ z. refl;
       }
 
-  pub some-overlap : (g : Grade) → Kept l → 0 < overlap → LeastOver l (tail_of place length) (place + overlap) g.gradient g.stretch → Past l place overlap length g
-  some-overlap g k h o =
+  -- `last` is the last point of the overlap
+  pub some-overlap : (g : Grade) (last : ℕ) → Kept l → 0 < overlap → last + 1 ≡ place + overlap → LeastOver l (tail_of place length) (last + 1) g.gradient g.stretch → Past l place overlap length g
+  some-overlap g last k h e q =
+      let o = rw e at q in
       record {
         value = o.value ∙ sym (past_is h);
         number = o.number ∙ sym (number_is h);

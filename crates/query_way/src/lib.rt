@@ -1,15 +1,16 @@
 // What a sheet says of the way to a signal and past it. Document 01, "Approach"; document 02, Cards 2, 3 and 4.
-// Takes: `sheet_lookup`, `sheet_walk`. Gives: `find`, refusals 7, 8, 9 or the way and the stretches that govern it, to `query`; the
-// signal and the tail alone (`signal_ahead`, `tail`), to `query_back`.
+// Takes: `sheet_fields`, `sheet_walk`, and for its contract `sheet_lookup`. Gives: `find`, refusals 7, 8, 9 or the way and the stretches that
+// govern it, to `query`; the signal and the tail alone (`signal_ahead`, `tail`), to `query_back`.
 #![tactic(auto)]
 
-ghost use Rattle.std.specs.Prelude.{◌≡◌, true, ◌+◌, ◌≤◌, ◌<◌};
-ghost use Rattle.sheet.specs.Sheet.{line_of, accepted};
+ghost use Rattle.std.specs.Prelude.{◌≡◌, ◌+◌, ◌≤◌, ◌<◌};
+ghost use Rattle.sheet.specs.Sheet.{line_of};
 ghost use Rattle.query_way.specs.Way.{tail_of};
 ghost use Rattle.query_way.specs.Find.{Ahead, Finds, GradeOver, Past};
 
-use sheet_lookup::Signal;
+use sheet_fields::Accepted;
 use sheet_walk::Grade;
+use train::refusal::Refusal;
 use train::{Gradient, Metre};
 
 // How far the signal is from the head, and the least gradient from the tail to the signal; the overlap, and the least gradient under
@@ -30,97 +31,85 @@ pub struct Governing {
     pub ahead: u32,
 }
 
-// A refusal, or the way and what governs it.
+// A signal on its sheet: where it stands, and its overlap.
 #[derive(Clone, Copy)]
-pub enum Found {
-    Refused(u32),
-    Ready(Way, Governing),
+pub struct Located<'a> {
+    pub sheet: Accepted<'a>,
+    pub place: Metre,
+    pub overlap: Metre,
 }
 
 // The signal of that number, from 0, where the head is not beyond it; or refusal 7, 8 or 9.
-pub fn signal_ahead(s: &[u8], signal: u32, head: Metre) -> Signal
+pub fn signal_ahead<'a>(s: &'a [u8], signal: u32, head: Metre) -> Result<Located<'a>, Refusal>
     ensures { Ahead s.now signal head.0 result }
 {
-    let read = sheet_lookup::read_signal(s, signal);
-    let unread = read.refusal;
-    let place = read.place;
-    if unread > 0 {
-        return read;
+    let sheet = Accepted::open(s)?;
+    if signal >= sheet.signals() {
+        return Err(Refusal::Number);
     }
+    let k = signal as usize;
+    let place = sheet.place(k);
     if head.0 > place.0 {
-        return Signal {
-            refusal: 9,
-            place: Metre(0),
-            overlap: Metre(0),
-        };
+        return Err(Refusal::Head);
     }
-    read
+    Ok(Located {
+        sheet,
+        place,
+        overlap: sheet.overlap(k),
+    })
 }
 
 // Where the tail is of a train with its head at a place: its length behind that, or at the line's beginning.
 pub fn tail(place: Metre, length: Metre) -> Metre
     ensures { result.0 ≡ tail_of place.0 length.0 }
 {
-    let head = place.0;
-    let behind = length.0;
-    if head < behind {
-        return Metre(0);
-    }
-    Metre(head - behind)
+    Metre(place.0.saturating_sub(length.0))
 }
 
 // The governing grade from the tail to the signal, both included.
-fn ahead(s: &[u8], head: Metre, length: Metre, place: Metre) -> Grade
-    requires { (accepted s.now ≡ true) × (head.0 ≤ place.0) × (place.0 < (line_of s.now).end) }
-    ensures { GradeOver (line_of s.now) (tail_of head.0 length.0) (place.0 + 1) result }
+fn ahead(s: Accepted, head: Metre, length: Metre, place: Metre) -> Grade
+    requires { (head.0 ≤ place.0) × (place.0 < (line_of s.bytes.now).end) }
+    ensures { GradeOver (line_of s.entry.bytes.now) (tail_of head.0 length.0) (place.0 + 1) result }
 {
-    let from = tail(head, length);
-    sheet_walk::least(s, from, place)
+    sheet_walk::least(s, tail(head, length), place)
 }
 
-// The governing grade from the tail of a train with its head at the signal up to but not including the overlap's end.
-fn past(s: &[u8], place: Metre, length: Metre, overlap: Metre) -> Grade
-    requires { (accepted s.now ≡ true) × (place.0 + overlap.0 ≤ (line_of s.now).end) }
-    ensures { Past (line_of s.now) place.0 overlap.0 length.0 result }
+// The governing grade from the tail of a train with its head at the signal up to but not including the overlap's end. That of no length
+// is level, under Card 4's number for no stretch: the definitions of the way have it so, and it is no Option.
+fn past(s: Accepted, place: Metre, length: Metre, overlap: Metre) -> Grade
+    requires { place.0 + overlap.0 ≤ (line_of s.bytes.now).end }
+    ensures { Past (line_of s.entry.bytes.now) place.0 overlap.0 length.0 result }
 {
-    let signal = place.0;
-    let further = overlap.0;
-    if further < 1 {
+    if overlap.0 < 1 {
         return Grade {
             gradient: Gradient { rise: 0, fall: 0 },
             stretch: 65535,
         };
     }
-    let last = signal + further - 1;
-    let from = tail(place, length);
-    sheet_walk::least(s, from, Metre(last))
+    let last = Metre(place.0 + overlap.0 - 1);
+    sheet_walk::least(s, tail(place, length), last)
 }
 
 // The way of a train of a length from its head to the signal of that number, from 0, and past it, and the stretches that govern it.
-pub fn find(s: &[u8], signal: u32, head: Metre, length: Metre) -> Found
+pub fn find(s: &[u8], signal: u32, head: Metre, length: Metre) -> Result<(Way, Governing), Refusal>
     ensures { Finds s.now signal head.0 length.0 result }
 {
-    let read = signal_ahead(s, signal, head);
-    let bad = read.refusal;
-    let place = read.place;
-    let overlap = read.overlap;
-    if bad > 0 {
-        return Found::Refused(bad);
-    }
-    let distance = place.0 - head.0;
-    let grade_ahead = ahead(s, head, length, place);
-    let grade_past = past(s, place, length, overlap);
-    let gradient_ahead = grade_ahead.gradient;
-    let gradient_past = grade_past.gradient;
+    let Located {
+        sheet,
+        place,
+        overlap,
+    } = signal_ahead(s, signal, head)?;
+    let grade_ahead = ahead(sheet, head, length, place);
+    let grade_past = past(sheet, place, length, overlap);
     let way = Way {
-        distance: Metre(distance),
-        ahead: gradient_ahead,
-        overlap: overlap,
-        past: gradient_past,
+        distance: Metre(place.0 - head.0),
+        ahead: grade_ahead.gradient,
+        overlap,
+        past: grade_past.gradient,
     };
     let governing = Governing {
         overlap: grade_past.stretch,
         ahead: grade_ahead.stretch,
     };
-    Found::Ready(way, governing)
+    Ok((way, governing))
 }

@@ -1,5 +1,4 @@
 -- The lists of conditions decide by the rules in words of their own.
-use mathlib.Core.List.{[], ◌∷◌}
 use Prim.Native.Nat.{ℕ}
 use Rattle.train.specs.declared.Inertia.{Inertia}
 use Rattle.train.proofs.Judging.{Settles, Judges, ◌then◌, ◌and◌, no_more, at_least, weight-settles, gradient-settles, inertia-settles, brake-settles}
@@ -9,9 +8,6 @@ use Rattle.ramp.proofs.Spanned.{speed-settles}
 
 pub times-settles : (tm tr : ℕ) → Settles (times_rule tm tr) (time_refusals tm tr)
 times-settles tm tr = at_least 6 tt tm 2000 and at_least 6 tt 1 tr and at_least 6 tt tr 3000
-
-pub times-judges : (tm tr : ℕ) → Judges (times_rule tm tr ∷ []) (time_refusals tm tr)
-times-judges tm tr = times-settles tm tr then no_more
 
 pub inputs-judge : (k : Inertia) (o : Overrun) → Judges (input_rules k o) (inputs k o)
 inputs-judge k o =

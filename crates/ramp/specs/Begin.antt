@@ -1,6 +1,8 @@
 -- What the code knows before it looks for the stop, and what it finds.
-use Rattle.std.specs.Prelude.{◌≡◌, ℕ, ◌+◌, ◌*◌, ◌<◌}
+use Rattle.std.specs.Prelude.{◌≡◌, ℕ, ◌+◌, ◌*◌, ◌<◌, Result, Ok, Err}
 use Rattle.train.specs.declared.Inertia.{Inertia}
+use Rattle.train.specs.declared.refusal.Refusal.{Refusal}
+use Rattle.train.specs.Number.{number}
 use Rattle.train.specs.Refusal.{first_of}
 use Rattle.ramp_motion.specs.declared.Overrun.{Overrun}
 use Rattle.ramp_motion.specs.declared.Plan.{Plan}
@@ -8,8 +10,6 @@ use Rattle.ramp_motion.specs.Plan.{IsPlan}
 use Rattle.ramp_plan.specs.Fair.{Small, Enough}
 use Rattle.ramp_stop.specs.Stop.{Turns, place_up, from}
 use Rattle.ramp.specs.declared.Stop.{Stop}
-use Rattle.ramp.specs.declared.Begun.{Begun}
-use Rattle.ramp.specs.declared.Begun.TheVariants.{Refused, Ready}
 use Rattle.ramp.specs.Answer.{ramp_refusals}
 
 pub record Stops (m : Plan) (r : Stop) : Type 0 where
@@ -28,6 +28,6 @@ module _ (k : Inertia) (o : Overrun) where
     pub small : Small m
     pub enough : Enough m
 
-  abbrev pub Starts : Begun → Type 0
-  Starts (Refused n) = (0 < n) × (first_of (ramp_refusals k o) ≡ n)
-  Starts (Ready m) = IsReady m
+  abbrev pub Starts : Result Plan Refusal → Type 0
+  Starts (Ok m) = IsReady m
+  Starts (Err r) = (0 < number r) × (first_of (ramp_refusals k o) ≡ number r)

@@ -5,6 +5,7 @@
 
 ghost use Rattle.std.specs.Prelude.{◌≡◌, [], ◌∷◌, ◌≤◌};
 ghost use Rattle.train.specs.Gradient.{gradient_of};
+ghost use Rattle.train.specs.Number.{number, refusal_of};
 ghost use Rattle.train.specs.Refusal.{first_of};
 ghost use Rattle.train.specs.Judged.{Judged};
 ghost use Rattle.ramp.specs.Answer.{time_refusals, times_rule, inputs, refused, RampAnswers};
@@ -12,9 +13,10 @@ ghost use Rattle.ramp_plan.specs.Fair.{Small, Enough};
 ghost use Rattle.ramp.specs.Begin.{Starts, Stops, from_speed};
 
 use ramp_motion::{Overrun, Plan};
+use train::refusal::Refusal;
 use train::{Inertia, Kmh, Millimetre};
 
-// How far the train gets, and the moment in ms; or a refusal and zeros.
+// How far the train gets, and the moment in ms; or a refusal and zeros, since C reads it.
 #[repr(C)]
 #[derive(Clone, Copy)]
 pub struct Stop {
@@ -23,79 +25,52 @@ pub struct Stop {
     pub moment: u32,
 }
 
-// A refusal, or the motion in whole numbers.
-#[derive(Clone, Copy)]
-pub enum Begun {
-    Refused(u32),
-    Ready(Plan),
+// What is turned away of TM and TR, in hundredths of a second. They stand side by side and are no struct, as in C's calls and in the
+// contracts of both operations that take them (`RampAnswers`, `QueryAnswers`); what runs with them is `Overrun`.
+pub fn of_times(tm: u32, tr: u32) -> Result<(), Refusal>
+    ensures { (refusal_of result ≡ first_of (time_refusals tm tr)) × Judged (times_rule tm tr ∷ []) (refusal_of result) }
+{
+    if tm > 2000 || tr < 1 || tr > 3000 {
+        return Err(Refusal::Times);
+    }
+    Ok(())
 }
 
-// What TM and TR in hundredths of a second turn away, or 0.
-pub fn of_times(tm: u32, tr: u32) -> u32
-    ensures { (result ≡ first_of (time_refusals tm tr)) × Judged (times_rule tm tr ∷ []) result }
+// What the inputs alone turn away.
+fn turned_away(k: Inertia, o: Overrun) -> Result<(), Refusal>
+    ensures { refusal_of result ≡ first_of (inputs k o) }
 {
-    if tm > 2000 {
-        return 6;
+    train::refusal::of_weight(o.weight)?;
+    if o.v.0 < 1 || o.v.0 > 100 {
+        return Err(Refusal::Speed);
     }
-    if tr < 1 {
-        return 6;
-    }
-    if tr > 3000 {
-        return 6;
-    }
-    0
-}
-
-// What the inputs alone turn away, or 0.
-fn turned_away(k: Inertia, o: Overrun) -> u32
-    ensures { result ≡ first_of (inputs k o) }
-{
-    let v = o.v;
-    let speed = v.0;
-    let bad = train::refusal::of_weight(o.weight);
-    if bad > 0 {
-        return bad;
-    }
-    if speed < 1 {
-        return 3;
-    }
-    if speed > 100 {
-        return 3;
-    }
-    let steep = train::refusal::of_gradient(o.gradient);
-    if steep > 0 {
-        return steep;
-    }
-    let late = of_times(o.tm, o.tr);
-    if late > 0 {
-        return late;
-    }
+    train::refusal::of_gradient(o.gradient)?;
+    of_times(o.tm, o.tr)?;
     train::refusal::of_inertia(k)
 }
 
-// What stands before every answer.
-pub fn start(k: Inertia, o: Overrun) -> Begun
+// What stands before every answer: a refusal, or the motion in whole numbers.
+pub fn start(k: Inertia, o: Overrun) -> Result<Plan, Refusal>
     ensures { Starts k o result }
 {
-    let bad = turned_away(k, o);
-    if bad > 0 {
-        return Begun::Refused(bad);
-    }
+    turned_away(k, o)?;
     let m = ramp_plan::plan_of(k, o);
     if !ramp_plan::is_strong(m) {
-        return Begun::Refused(10);
+        return Err(Refusal::WeakBrake);
     }
-    Begun::Ready(m)
+    Ok(m)
 }
 
 // A refusal, with zeros.
-fn refused_with(n: u32) -> Stop
-    ensures { result ≡ refused n }
-{
-    Stop {
-        refusal: n,
-        distance: Millimetre(0),
-        moment: 0,
+impl From<Refusal> for Stop {
+    ghost from_gives = { λ r answer. answer ≡ refused (number r) };
+
+    fn from(r: Refusal) -> Stop {
+        Stop {
+            refusal: r.number(),
+            distance: Millimetre(0),
+            moment: 0,
+        }
     }
 }
 
@@ -106,11 +81,10 @@ fn stop_at(m: Plan) -> Stop
 {
     let t = ramp_stop::search::last_forward(m);
     let mm = ramp_stop::place::place_up(m, t) + 1;
-    let ms = t as u32;
     Stop {
         refusal: 0,
         distance: Millimetre(mm),
-        moment: ms,
+        moment: t as u32,
     }
 }
 
@@ -119,16 +93,8 @@ pub fn stop_from(m: Plan, v: Kmh) -> Stop
     requires { Small m × Enough m × (v.0 ≤ 100) }
     ensures { Stops (from_speed m v.0) result }
 {
-    let speed = v.0 as u64;
-    let start = 50000000000 * speed * m.tr;
-    stop_at(Plan {
-        start: start,
-        up: m.up,
-        down: m.down,
-        brake: m.brake,
-        tm: m.tm,
-        tr: m.tr,
-    })
+    let start = 50000000000 * u64::from(v.0) * m.tr;
+    stop_at(Plan { start, ..m })
 }
 
 // The answer; TM and TR in hundredths of a second, k the train's coefficients of the slope.
@@ -136,15 +102,14 @@ pub fn ramp(weight: u32, gradient: i32, v: Kmh, tm: u32, tr: u32, k: Inertia) ->
     ensures { RampAnswers k (record { weight = weight; gradient = gradient_of gradient; v = v; tm = tm; tr = tr }) result }
 {
     let o = Overrun {
-        weight: weight,
+        weight,
         gradient: train_slope::gradient_of(gradient),
-        v: v,
-        tm: tm,
-        tr: tr,
+        v,
+        tm,
+        tr,
     };
-    let begun = start(k, o);
-    match begun {
-        Begun::Refused(n) => refused_with(n),
-        Begun::Ready(m) => stop_at(m),
+    match start(k, o) {
+        Ok(m) => stop_at(m),
+        Err(r) => Stop::from(r),
     }
 }

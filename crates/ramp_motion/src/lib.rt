@@ -16,7 +16,8 @@ pub struct Overrun {
 }
 
 // Its motion in whole numbers, times in ms: the speed in (10⁻¹⁰ m/s) / (18 tr), an uphill and a downhill slope's deceleration
-// in (10⁻⁷ m/s²) / (18 tr), the brake's in (10⁻⁷ m/s²) / 9.
+// in (10⁻⁷ m/s²) / (18 tr), the brake's in (10⁻⁷ m/s²) / 9. How large they are (`Small`) is no ghost field: the definitions and the laws
+// make plans beyond it too (`from` any speed, `finer` by any factor).
 #[derive(Clone, Copy)]
 pub struct Plan {
     pub start: u64,

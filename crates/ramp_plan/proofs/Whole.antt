@@ -11,7 +11,6 @@ use Rattle.train.specs.Coefficients.{InertiaWithin}
 use Rattle.train_slope.proofs.Factors.{factor-small}
 use Rattle.train_slope.proofs.Decelerations.{slope-small}
 use Rattle.ramp_motion.specs.declared.Overrun.{Overrun}
-use Rattle.ramp_motion.specs.declared.Plan.{Plan}
 use Rattle.ramp_motion.proofs.Planned.{planned, plan_of}
 use Rattle.ramp_plan.specs.Fair.{Fair, Small}
 
@@ -47,7 +46,3 @@ plan_of-small k o w f =
     let i = factor-small k o.gradient w in
     let g = f.gradient in
     is-small o _ _ _ f (slope-small _ _ i g.rise) (slope-small _ _ i g.fall) (omega (arith, f.weight))
-
--- what the test of the strength works out
-pub strength-fits : (m : Plan) → Small m → 2 * m.brake * m.tr ≤ 5783400000000
-strength-fits m s = mul-le-mul {n₂ = 192780000} (omega (arith, s.brake)) s.tr

@@ -15,21 +15,18 @@ pub fn plan_of(k: Inertia, o: Overrun) -> Plan
     requires { InertiaWithin k × Fair o }
     ensures { IsPlan k o result × Small result }
 {
-    let v = o.v;
-    let speed = v.0 as u64;
-    let tm = o.tm as u64;
-    let tr = 10 * o.tr as u64;
+    let tr = 10 * u64::from(o.tr);
     let pull = train_slope::pull_of(k, o.gradient);
     // dp = 0.9 × dr, in 10⁻⁷ m/s²
     let dp7 = 90 * train_slope::nominal(o.weight);
     // one km/h is 5/18 m/s, and the speed is in (10⁻¹⁰ m/s) / (18 tr)
     Plan {
-        start: 50000000000 * speed * tr,
+        start: 50000000000 * u64::from(o.v.0) * tr,
         up: 18 * pull.up7 * tr,
         down: 18 * pull.dn7 * tr,
         brake: 9 * dp7,
-        tm: 10 * tm,
-        tr: tr,
+        tm: 10 * u64::from(o.tm),
+        tr,
     }
 }
 

@@ -24,8 +24,6 @@ cube-small a h = mul-le-mul (square-small a h) h
 
 -- the times for which the brake has acted, a, and acts in full, f
 pub record Times (a f : ℕ) : Type 0 where
-  pub square : a * a ≤ 1099511627776
-  pub square-less : f * f ≤ a * a
   pub cube : a * a * a ≤ 1152921504606846976
   pub cube-less : f * f * f ≤ a * a * a
 
@@ -33,7 +31,7 @@ pub times-fit : (tm tr t a f : ℕ) → a ≡ t - tm → f ≡ t - (tm + tr) →
 times-fit tm tr t a f e e' h =
     let i : a ≤ longest = omega arith in
     let j : f ≤ a = omega arith in
-    record { square = square-small a i; square-less = mul-le-mul j j; cube = cube-small a i; cube-less = mul-le-mul (mul-le-mul j j) j }
+    record { cube = cube-small a i; cube-less = mul-le-mul (mul-le-mul j j) j }
 
 module _ (m : Plan) (t : ℕ) (s : Small m) (l : t ≤ longest) where
   slope-way : (x : ℕ) → x ≤ 74163600 * m.tr → x * t ≤ 2332985131008000000
@@ -69,14 +67,6 @@ module _ (m : Plan) (t : ℕ) (s : Small m) (l : t ≤ longest) where
       (times (num 3 ⊗ x1) x2 (num 88000000000000 ⊗ x0) w (times (num 264000000000000 ⊗ x0) x1 (num 1048576) l done))
       (num 3 ⊗ x1 ⊗ x2) (num 300000000 ⊗ (num (108 * 10 ^ 10) ⊗ x0)) refl
 
-  -- the quotient that gives the place, by what the code has for gain - loss and for a millimetre
-  pub quotient_fits : (n d : ℕ) → n ≡ gain m t - loss m t → d ≡ 108 * 10 ^ 10 * m.tr → (0 < d) × (n ≤ 4294967295 * d)
-  quotient_fits n d e f =
-      let g = gain-most in
-      let i : 0 < 108 * 10 ^ 10 * m.tr = mul-pos (lit< tt) s.some in
-      let h : gain m t - loss m t ≤ 4294967295 * (108 * 10 ^ 10 * m.tr) = omega arith in
-      rw (e, f) (i, h)
-
   pub place-most : place_up m t ≤ 300000000
   unfolding place_up
   place-most =
@@ -99,22 +89,3 @@ module _ (tm tr t a f : ℕ) (e : a ≡ t - tm) (e' : f ≡ t - (tm + tr)) where
   pub cubes-from : a * a * a - f * f * f ≡ cubes tm tr t
   unfolding cubes
   cubes-from = rw (e, e')
-
--- what the moment under full braking is worked out from
-pub record Evenly (m : Plan) : Type 0 where
-  pub start : m.start ≤ 150000000000000000
-  pub up : m.up ≤ 2224908000000
-  pub brake : m.brake * m.tr ≤ 2891700000000
-  pub twice : 2 * m.brake * m.tr ≤ 5783400000000
-  pub late : m.brake * m.tr * (2 * m.tm + m.tr) ≤ 202419000000000000
-
-pub even : (m : Plan) → Small m → Evenly m
-even m s =
-    let b : m.brake * m.tr ≤ 2891700000000 = mul-le-mul {n₂ = 96390000} {m₂ = 30000} s.brake s.tr in
-    record {
-      start = omega (arith, s.start, s.tr);
-      up = omega (arith, s.up, s.tr);
-      brake = b;
-      twice = mul-le-mul {n₂ = 192780000} {m₂ = 30000} (omega (arith, s.brake)) s.tr;
-      late = mul-le-mul {n₂ = 2891700000000} {m₂ = 70000} b (omega (arith, s.tm, s.tr));
-    }

@@ -3,7 +3,7 @@ use mathlib.Core.Path.{◌≡◌, refl, sym}
 use mathlib.Core.List.{[], ◌∷◌}
 use Prim.Native.Nat.{ℕ, ◌+◌, ◌*◌, ◌-◌, ◌^◌, ◌/◌, ◌%◌, ◌≤◌, ◌<◌}
 use native.Mathlib.Omega.{arith}
-use native.Mathlib.Nat.{mul-pos, mul_assoc, le_of_eq, mul-le-mul, le_refl, le_trans, le_antisymm, le_of_mul-le-mul_right, lt_of_not-le, div-mul-le_self, lt-div-mul-add, div-add-mod, mod-lt, div-eq_of_eq-mul_left}
+use native.Mathlib.Nat.{mul-pos, mul_assoc, le_of_eq, mul-le-mul, le_refl, le_trans, le_antisymm, le_of_mul-le-mul_right, lt_of_not-le, div-mul-le_self, lt-div-mul-add, div-add-mod, div-eq_of_eq-mul_left}
 use native.Mathlib.Decide.{dec_le}
 use lib.Dec.{lit<, lit≤}
 use Rattle.exact.specs.Fraction.{◌over◌, raised}
@@ -37,9 +37,6 @@ module _ (p x tr : ℕ) (l : 0 < tr) where
 
   pub share-fits : p * x ≤ 13000000000000000000 * tr → share ≤ 13000000000000000000
   share-fits h = le_of_mul-le-mul_right {k = tr} (le_trans share-below h) l
-
-  pub rest-fits : p ≤ 32130000 → tr ≤ 30000 → p * (x % tr) ≤ 963900000000
-  rest-fits h k = mul-le-mul {n₂ = 32130000} {m₂ = 30000} h (let i = mod-lt x l in omega arith)
 
 -- y less a part of one, times 6 tr, over 6 tr u: raised it is y over u raised
 pub raised-word : (n d y u tr : ℕ) → 0 < tr → 0 < u → n ≤ 6 * tr * y → 6 * tr * y < n + 6 * tr → d ≡ 6 * tr * u → raised (n over d) ≡ raised (y over u)

@@ -5,20 +5,20 @@ ghost use Rattle.ramp_motion.specs.Plan.{cubes, gain, loss};
 ghost use Rattle.ramp_plan.specs.Fair.{Small};
 ghost use Rattle.ramp_stop.specs.Stop.{longest, word_long, place_up};
 
-use super::search::since;
 use ramp_motion::Plan;
 use wide::Wide;
 
 // 2¹⁹ ms, some 9 minutes: few stops are later.
 const WORD_LONG: u64 = 524288;
 
-// What the brake takes off the place, but for a factor.
-fn cubes_at(tm: u64, tr: u64, t: u64) -> u64
-    requires { (tm ≤ 20000) × (tr ≤ 30000) × (t ≤ longest) }
-    ensures { result ≡ cubes tm tr t }
+// What the brake takes off the place, but for a factor; `squares_at` with cubes. They stay two: a power as a parameter would make a
+// loop of what is plain to see, and the contracts have a definition for each (`squares`, `cubes`).
+fn cubes_at(m: Plan, t: u64) -> u64
+    requires { Small m × (t ≤ longest) }
+    ensures { result ≡ cubes m.tm m.tr t }
 {
-    let acted = since(t, tm);
-    let full = since(t, tm + tr);
+    let acted = t.saturating_sub(m.tm);
+    let full = t.saturating_sub(m.tm + m.tr);
     acted * acted * acted - full * full * full
 }
 
@@ -34,9 +34,8 @@ fn loss_at(m: Plan, t: u64) -> Wide
     requires { Small m × (t ≤ longest) }
     ensures { value_of result ≡ loss m t }
 {
-    let cubes = cubes_at(m.tm, m.tr, t);
     let slope = wide::product(3 * t, m.up * t);
-    let brake = wide::product(2 * m.brake, cubes);
+    let brake = wide::product(2 * m.brake, cubes_at(m, t));
     wide::sum(slope, brake)
 }
 
@@ -48,7 +47,7 @@ fn by_wide(m: Plan, t: u64) -> u32
     // a millimetre, as gain and loss count
     let unit = 1080000000000 * m.tr;
     let place = wide::difference(gain_at(m, t), loss_at(m, t));
-    wide_quotient::quotient_up(place, wide::from_word(unit))
+    wide_quotient::quotient_up(place, Wide::from(unit))
 }
 
 // p x / tr, lowered. The product may be longer than a word: what x leaves over tr is taken by itself.
@@ -73,10 +72,8 @@ fn by_word(m: Plan, t: u64) -> u32
     ensures { (result ≡ place_up m t) × (result ≤ 300000000) }
 {
     let unbraked = mean_speed(m, t) * t;
-    let cubes = cubes_at(m.tm, m.tr, t);
-    let braked = product_over(m.brake / 3, cubes, m.tr);
-    let up = (unbraked - braked + 179999999999) / 180000000000;
-    up as u32
+    let braked = product_over(m.brake / 3, cubes_at(m, t), m.tr);
+    (unbraked - braked).div_ceil(180000000000) as u32
 }
 
 // The least whole millimetre not below the place at t ms.

@@ -1,5 +1,6 @@
 -- What a read promises beside its answer.
 use mathlib.Core.Path.{◌≡◌, refl, sym, ap, ◌∙◌}
+use mathlib.Core.Bool.{false}
 use mathlib.Core.List.{List, [], ◌∷◌}
 use mathlib.Core.Logic.{⊎_elim}
 use Prim.Native.Nat.{ℕ, ◌<◌}
@@ -13,7 +14,7 @@ use Rattle.train.specs.Judged.{◌keeps◌, Judged}
 use Rattle.train.proofs.Refusals.{Rising, none-holds}
 use Rattle.train.proofs.Judging.{below as under, no_more, ◌then◌, told}
 use Rattle.train.proofs.Lending.{refused-demand, given-demand}
-use Rattle.sheet.specs.Sheet.{line_of}
+use Rattle.sheet.specs.Sheet.{line_of, accepted}
 use Rattle.sheet.specs.Fields.{KthStretch, KthSignal}
 use Rattle.sheet.specs.Kept.{sheet_rule}
 use Rattle.sheet.proofs.Kept.{sheet-settles}
@@ -34,6 +35,10 @@ module _ (s : List ℕ) (k : ℕ) where
 
   number : (count : ℕ) → first_of (read_refusals s count k) ≡ 0 → k < count
   number count z = let (a, (b, _)) = none-holds 0 (read_refusals s count k) (read-rising s count k) z in leb-false _ _ b
+
+  -- a refusal promises nothing of the bytes
+  not-again : Again s 7
+  not-again = record { again = λ e. absurd (let z : 7 ≡ 0 = e in omega arith) }
 
   -- of a stretch, without a refusal and with one
   abbrev first-of-stretch : ℕ
@@ -61,6 +66,10 @@ module _ (s : List ℕ) (k : ℕ) where
       record { answer = e; lent = rw i (refused-demand _ _ s (refl, (refl, (refl, tt)))); spans = spans _ _ _ (stretch-count s) y; again = a; read = λ z. absurd (omega arith) })
       (below first-of-stretch 1)
 
+  pub no-stretch : accepted s ≡ false → StretchAnswers s k (record { refusal = 7; start = metres 0; gradient = pos 0 }) s
+  unfolding stretch_of
+  no-stretch h = stretch-answers _ (simp h) not-again
+
   -- of a signal, without a refusal and with one
   abbrev first-of-signal : ℕ
   first-of-signal = first_of (read_refusals s (line_of s).signals k)
@@ -86,3 +95,7 @@ module _ (s : List ℕ) (k : ℕ) where
       let y = ap (λ (r : Signal). r.refusal) i in
       record { answer = e; lent = rw i (refused-demand _ _ s (refl, (refl, tt))); spans = spans _ _ _ (signal-count s) y; again = a; read = λ z. absurd (omega arith) })
       (below first-of-signal 1)
+
+  pub no-signal : accepted s ≡ false → SignalAnswers s k (record { refusal = 7; place = metres 0; overlap = metres 0 }) s
+  unfolding signal_of
+  no-signal h = signal-answers _ (simp h) not-again

@@ -1,11 +1,14 @@
-// An accepted line sheet, opened where its bytes lie: it is consulted in the caller's bytes and never unpacked.
+// An accepted line sheet, opened where its bytes lie: it is consulted in the caller's bytes and never unpacked. The theorems
+// `method-meets` and `above-meets` are about this code as it stands, so what an `Accepted` says by its type is asked here by clauses;
+// and slice, counts and number are the form that document 01 names.
 ghost use Rattle.std.specs.Prelude.{◌≡◌, true};
 ghost use Rattle.sheet.specs.Sheet.{accepted};
 ghost use Rattle.sheet_lookup.specs.Answer.{stretch_of, signal_of};
 ghost use Rattle.sheet_lookup.specs.Counts.{IsCounts};
 
 use super::{Signal, Stretch};
-use train::Metre;
+use sheet_fields::Accepted;
+use train::refusal::Refusal;
 
 // How many stretches and signals.
 #[derive(Clone, Copy)]
@@ -26,51 +29,46 @@ pub fn counts_of(s: &[u8]) -> Counts
     requires { accepted s.now ≡ true }
     ensures { IsCounts s.now result }
 {
-    let stretches = sheet_fields::stretches(s);
-    let signals = sheet_fields::signals(s);
+    let sheet = Accepted { bytes: s };
     Counts {
-        stretches: stretches,
-        signals: signals,
+        stretches: sheet.stretches(),
+        signals: sheet.signals(),
     }
 }
 
 // The stretch of that number, or refusal 8.
+#[tactic(auto, unfolding(crate::specs::Answer::stretch_of))]
 pub fn nth_stretch(s: &[u8], counts: Counts, number: u32) -> Stretch
     requires { IsCounts s.now counts }
     ensures { result ≡ stretch_of s.now number }
 {
     if number >= counts.stretches {
-        return Stretch {
-            refusal: 8,
-            start: Metre(0),
-            gradient: 0,
-        };
+        return Stretch::from(Refusal::Number);
     }
+    let sheet = Accepted { bytes: s };
     let k = number as usize;
     Stretch {
         refusal: 0,
-        start: sheet_fields::start(s, k),
-        gradient: sheet_fields::gradient(s, k),
+        start: sheet.start(k),
+        gradient: sheet.gradient(k),
     }
 }
 
 // The signal of that number, or refusal 8.
+#[tactic(auto, unfolding(crate::specs::Answer::signal_of))]
 pub fn nth_signal(s: &[u8], counts: Counts, number: u32) -> Signal
     requires { IsCounts s.now counts }
     ensures { result ≡ signal_of s.now number }
 {
     if number >= counts.signals {
-        return Signal {
-            refusal: 8,
-            place: Metre(0),
-            overlap: Metre(0),
-        };
+        return Signal::from(Refusal::Number);
     }
+    let sheet = Accepted { bytes: s };
     let k = number as usize;
     Signal {
         refusal: 0,
-        place: sheet_fields::place(s, k),
-        overlap: sheet_fields::overlap(s, k),
+        place: sheet.place(k),
+        overlap: sheet.overlap(k),
     }
 }
 
@@ -101,7 +99,7 @@ impl<'a> Sheet<'a> {
     }
 }
 
-// A stretch of an accepted sheet, for callers that hold plain bytes.
+// A stretch of an accepted sheet.
 pub fn stretch_of(s: &[u8], number: u32) -> Stretch
     requires { accepted s.now ≡ true }
     ensures { result ≡ stretch_of s.now number }

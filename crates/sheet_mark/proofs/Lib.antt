@@ -1,3 +1,2 @@
-pub mod Whole
 mod Walk
 mod Answers

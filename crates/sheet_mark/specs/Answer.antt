@@ -25,8 +25,12 @@ step_off m = record { refusal = 0; end = 1; start = metres 0; gradient = pos 0; 
 abbrev pub step_of : Line → Mark → Move
 step_of l m = cond (ltb m.next l.stretches) (step_on l m) (step_off m)
 
+-- a refusal, with zeros
+abbrev pub refused : ℕ → Move
+refused n = record { refusal = n; end = 0; start = metres 0; gradient = pos 0; mark = fresh }
+
 unfoldable pub move_of : List ℕ → Mark → Move
-move_of s m = cond (accepted s) (step_of (line_of s) m) (record { refusal = 7; end = 0; start = metres 0; gradient = pos 0; mark = fresh })
+move_of s m = cond (accepted s) (step_of (line_of s) m) (refused 7)
 
 -- what a read promises beside its answer: the fields of a sheet that is read write its bytes
 pub record Again (s : List ℕ) (refusal : ℕ) : Type 0 where

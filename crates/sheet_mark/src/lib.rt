@@ -1,12 +1,15 @@
 // The reading mark, which moves stretch by stretch along the sheet. Document 01, "Line sheet".
-// Takes: `sheet`, `sheet_fields`. Gives: the operation `Mark::moved`, above a move along an accepted sheet (`step`).
+// Takes: `sheet_fields`. Gives: the operation `Mark::moved`, above a move along an accepted sheet (`step`).
 #![tactic(auto)]
 
-ghost use Rattle.std.specs.Prelude.{◌≡◌, true};
-ghost use Rattle.sheet.specs.Sheet.{line_of, accepted};
-ghost use Rattle.sheet_mark.specs.Answer.{fresh, step_of, MoveAnswers};
+ghost use Rattle.std.specs.Prelude.{◌≡◌};
+ghost use Rattle.train.specs.Number.{number};
+ghost use Rattle.sheet.specs.Sheet.{line_of};
+ghost use Rattle.sheet_mark.specs.Answer.{fresh, refused, step_of, MoveAnswers};
 
+use sheet_fields::Accepted;
 use train::Metre;
+use train::refusal::Refusal;
 
 // Where the reading stands: before the stretch of that number. Any number is taken.
 #[repr(C)]
@@ -15,7 +18,8 @@ pub struct Mark {
     pub next: u32,
 }
 
-// A move's answer: the next stretch's fields and the advanced mark; or `end` 1, zeros and the same mark; or a refusal and zeros.
+// A move's answer: the next stretch's fields and the advanced mark; or `end` 1, zeros and the same mark; or a refusal and zeros. C reads
+// it, so the three are numbers in one record.
 #[repr(C)]
 #[derive(Clone, Copy)]
 pub struct Move {
@@ -24,6 +28,21 @@ pub struct Move {
     pub start: Metre,
     pub gradient: i32,
     pub mark: Mark,
+}
+
+// A refusal, with zeros.
+impl From<Refusal> for Move {
+    ghost from_gives = { λ r answer. answer ≡ refused (number r) };
+
+    fn from(r: Refusal) -> Move {
+        Move {
+            refusal: r.number(),
+            end: 0,
+            start: Metre(0),
+            gradient: 0,
+            mark: Mark::fresh(),
+        }
+    }
 }
 
 impl Mark {
@@ -35,12 +54,10 @@ impl Mark {
     }
 
     // A move along an accepted sheet.
-    pub fn step(self, s: &[u8]) -> Move
-        requires { accepted s.now ≡ true }
-        ensures { result ≡ step_of (line_of s.now) self }
+    pub fn step(self, s: Accepted) -> Move
+        ensures { result ≡ step_of (line_of s.entry.bytes.now) self }
     {
-        let next = self.next;
-        if next >= sheet_fields::stretches(s) {
+        if self.next >= s.stretches() {
             return Move {
                 refusal: 0,
                 end: 1,
@@ -49,13 +66,15 @@ impl Mark {
                 mark: self,
             };
         }
-        let k = next as usize;
+        let k = self.next as usize;
         Move {
             refusal: 0,
             end: 0,
-            start: sheet_fields::start(s, k),
-            gradient: sheet_fields::gradient(s, k),
-            mark: Mark { next: next + 1 },
+            start: s.start(k),
+            gradient: s.gradient(k),
+            mark: Mark {
+                next: self.next + 1,
+            },
         }
     }
 
@@ -63,15 +82,9 @@ impl Mark {
     pub fn moved(self, s: &[u8]) -> Move
         ensures { MoveAnswers s.now self result s.now }
     {
-        if !sheet::check::accepts(s) {
-            return Move {
-                refusal: 7,
-                end: 0,
-                start: Metre(0),
-                gradient: 0,
-                mark: Mark { next: 0 },
-            };
+        match Accepted::open(s) {
+            Ok(sheet) => self.step(sheet),
+            Err(r) => Move::from(r),
         }
-        self.step(s)
     }
 }

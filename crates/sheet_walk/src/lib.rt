@@ -4,17 +4,20 @@
 // the least gradient over a span and its stretch (`least`), to `query_way`.
 #![tactic(auto)]
 
-ghost use Rattle.std.specs.Prelude.{◌≡◌, true, ◌+◌, ◌≤◌, ◌<◌, ltb};
-ghost use Rattle.sheet.specs.Sheet.{line_of, accepted};
+ghost use Rattle.std.specs.Prelude.{◌≡◌, ◌+◌, ◌≤◌, ◌<◌, ltb, pos};
+ghost use Rattle.train.specs.Number.{number};
+ghost use Rattle.sheet.specs.Sheet.{line_of};
 ghost use Rattle.sheet_span.specs.Least.{stretch_at, LeastOver};
 ghost use Rattle.sheet_walk.specs.Walk.{begun, further};
-ghost use Rattle.sheet_walk.specs.Back.{ended, back_on, Steps};
+ghost use Rattle.sheet_walk.specs.Back.{shown, ended, back_on, Steps};
 
+use sheet_fields::Accepted;
+use train::refusal::Refusal;
 use train::{Gradient, Metre};
 
 // Where the walk stands: at the stretch of that number; its gradient, and the least gradient of the stretches from where the walk
 // began to there, with the lowest number that has it. In per mille, signed, as read: a rise and a fall of every stretch make the walk
-// dearer.
+// dearer. It does not hold the sheet: the definitions of the walk, `begun` and `further`, are over its numbers alone.
 #[derive(Clone, Copy)]
 pub struct Walk {
     pub stretch: u32,
@@ -31,7 +34,7 @@ pub struct Grade {
 }
 
 // A step's answer: the stretch's number and gradient, and the least gradient of the steps up to it with the lowest number that has it;
-// or `end` 1 and zeros; or a refusal and zeros.
+// or `end` 1 and zeros; or a refusal and zeros. C reads it, so the three are numbers in one record.
 #[repr(C)]
 #[derive(Clone, Copy)]
 pub struct Back {
@@ -44,63 +47,74 @@ pub struct Back {
 }
 
 impl Walk {
-    // Step 0: at the stretch that holds a point.
-    pub fn begin(s: &[u8], point: Metre) -> Walk
-        requires { (accepted s.now ≡ true) × (point.0 < (line_of s.now).end) }
-        ensures { result ≡ begun (line_of s.now) (stretch_at (line_of s.now) point.0) }
+    // At a stretch, whose gradient is the least so far.
+    fn standing_at(s: Accepted, stretch: u32) -> Walk
+        requires { stretch < (line_of s.bytes.now).stretches }
+        ensures { result ≡ begun (line_of s.entry.bytes.now) stretch }
     {
-        let here = sheet_span::stretch_at(s, point);
-        let own = sheet_fields::gradient(s, here as usize);
+        let gradient = s.gradient(stretch as usize);
         Walk {
-            stretch: here,
-            gradient: own,
-            least: own,
-            least_stretch: here,
+            stretch,
+            gradient,
+            least: gradient,
+            least_stretch: stretch,
         }
     }
 
-    // One step on: at the stretch before.
-    pub fn onward(self, s: &[u8]) -> Walk
-        requires { (accepted s.now ≡ true) × (0 < self.stretch) × (self.stretch < (line_of s.now).stretches) }
-        ensures { result ≡ further (line_of s.now) self }
+    // Step 0: at the stretch that holds a point.
+    pub fn begin(s: Accepted, point: Metre) -> Walk
+        requires { point.0 < (line_of s.bytes.now).end }
+        ensures { result ≡ begun (line_of s.entry.bytes.now) (stretch_at (line_of s.entry.bytes.now) point.0) }
     {
-        let number = self.stretch - 1;
-        let so_far = self.least;
-        let gradient = sheet_fields::gradient(s, number as usize);
-        if gradient <= so_far {
-            return Walk {
-                stretch: number,
-                gradient: gradient,
-                least: gradient,
-                least_stretch: number,
-            };
+        Walk::standing_at(s, sheet_span::stretch_at(s, point))
+    }
+
+    // One step on: at the stretch before.
+    pub fn onward(self, s: Accepted) -> Walk
+        requires { (0 < self.stretch) × (self.stretch < (line_of s.bytes.now).stretches) }
+        ensures { result ≡ further (line_of s.entry.bytes.now) self }
+    {
+        let before = Walk::standing_at(s, self.stretch - 1);
+        if before.gradient <= self.least {
+            return before;
         }
         Walk {
-            stretch: number,
-            gradient: gradient,
-            least: so_far,
-            least_stretch: self.least_stretch,
+            stretch: before.stretch,
+            gradient: before.gradient,
+            ..self
         }
     }
 
     // Whether the stretch starts behind a point, so that the walk is still ahead of the stretch that holds it.
-    pub fn ahead_of(self, s: &[u8], point: Metre) -> bool
-        requires { (accepted s.now ≡ true) × (self.stretch < (line_of s.now).stretches) }
-        ensures { result ≡ ltb point.0 ((line_of s.now).start self.stretch) }
+    pub fn ahead_of(self, s: Accepted, point: Metre) -> bool
+        requires { self.stretch < (line_of s.bytes.now).stretches }
+        ensures { result ≡ ltb point.0 ((line_of s.entry.bytes.now).start self.stretch) }
     {
-        let number = self.stretch;
-        let start = sheet_fields::start(s, number as usize);
-        point.0 < start.0
+        point.0 < s.start(self.stretch as usize).0
+    }
+
+    // As an answer.
+    fn shown(self) -> Back
+        ensures { result ≡ shown self }
+    {
+        Back {
+            refusal: 0,
+            end: 0,
+            stretch: self.stretch,
+            gradient: self.gradient,
+            least: self.least,
+            least_stretch: self.least_stretch,
+        }
     }
 }
 
-// Past the last step.
-fn at_the_end() -> Back
-    ensures { result ≡ ended }
+// Zeros, beside a refusal or the end.
+fn zeros(refusal: u32, end: u32) -> Back
+    ensures { result ≡ record { refusal = refusal; end = end; stretch = 0; gradient = pos 0; least = pos 0; least_stretch = 0 } }
 {
     Back {
-        refusal: 0,
-        end: 1,
+        refusal,
+        end,
         stretch: 0,
         gradient: 0,
         least: 0,
@@ -108,40 +122,46 @@ fn at_the_end() -> Back
     }
 }
 
-// The step of that number, from 0, on the walk from the stretch that holds `last` to the one that holds `first`. It costs no more steps
-// than its number, and no more than there are.
-pub fn step_back(s: &[u8], first: Metre, last: Metre, step: u32) -> Back
-    requires { (accepted s.now ≡ true) × (first.0 ≤ last.0) × (last.0 < (line_of s.now).end) }
-    ensures { (result ≡ back_on (line_of s.now) first.0 last.0 step) × Steps s.now first.0 last.0 step result }
+// Past the last step.
+fn at_the_end() -> Back
+    ensures { result ≡ ended }
 {
-    let tail = first.0;
-    let mut walk = Walk::begin(s, last);
-    let mut taken: u32 = 0;
-    while taken < step {
-        if !walk.ahead_of(s, Metre(tail)) {
-            return at_the_end();
-        }
-        walk = walk.onward(s);
-        taken += 1;
-    }
-    Back {
-        refusal: 0,
-        end: 0,
-        stretch: walk.stretch,
-        gradient: walk.gradient,
-        least: walk.least,
-        least_stretch: walk.least_stretch,
+    zeros(0, 1)
+}
+
+// A refusal, with zeros.
+impl From<Refusal> for Back {
+    ghost from_gives = { λ r answer. answer ≡ record { refusal = number r; end = 0; stretch = 0; gradient = pos 0; least = pos 0; least_stretch = 0 } };
+
+    fn from(r: Refusal) -> Back {
+        zeros(r.number(), 0)
     }
 }
 
-// The least gradient of the stretches that hold a point from `first` to `last`, both included, and its stretch: by all steps of the walk.
-pub fn least(s: &[u8], first: Metre, last: Metre) -> Grade
-    requires { (accepted s.now ≡ true) × (first.0 ≤ last.0) × (last.0 < (line_of s.now).end) }
-    ensures { LeastOver (line_of s.now) first.0 (last.0 + 1) result.gradient result.stretch }
+// The step of that number, from 0, on the walk from the stretch that holds `last` to the one that holds `first`. It costs no more steps
+// than its number, and no more than there are.
+pub fn step_back(s: Accepted, first: Metre, last: Metre, step: u32) -> Back
+    requires { (first.0 ≤ last.0) × (last.0 < (line_of s.bytes.now).end) }
+    ensures { (result ≡ back_on (line_of s.entry.bytes.now) first.0 last.0 step) × Steps s.entry.bytes.now first.0 last.0 step result }
 {
-    let tail = first.0;
     let mut walk = Walk::begin(s, last);
-    while walk.ahead_of(s, Metre(tail)) {
+    for _ in 0..step {
+        if !walk.ahead_of(s, first) {
+            return at_the_end();
+        }
+        walk = walk.onward(s);
+    }
+    walk.shown()
+}
+
+// The least gradient of the stretches that hold a point from `first` to `last`, both included, and its stretch: by all steps of the walk.
+// How many there are shows on the way, so the loop is a while.
+pub fn least(s: Accepted, first: Metre, last: Metre) -> Grade
+    requires { (first.0 ≤ last.0) × (last.0 < (line_of s.bytes.now).end) }
+    ensures { LeastOver (line_of s.entry.bytes.now) first.0 (last.0 + 1) result.gradient result.stretch }
+{
+    let mut walk = Walk::begin(s, last);
+    while walk.ahead_of(s, first) {
         walk = walk.onward(s);
     }
     Grade {

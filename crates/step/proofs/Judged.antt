@@ -1,7 +1,8 @@
 -- What the inputs do not turn away, and that the refusals decide by the rules in words of their own.
-use mathlib.Core.Path.{◌≡◌}
+use mathlib.Core.Path.{◌≡◌, sym, ◌∙◌}
 use mathlib.Core.List.{List, ◌++◌}
-use Prim.Native.Nat.{◌≤◌}
+use Prim.Native.Nat.{◌≤◌, ◌<◌}
+use native.Mathlib.Omega.{arith}
 use Rattle.exact.specs.Fraction.{◌+q◌}
 use Rattle.train.specs.declared.Kmh.{Kmh}
 use Rattle.train.specs.declared.Train.{Train}
@@ -9,9 +10,12 @@ use Rattle.train.specs.declared.Gradient.{Gradient}
 use Rattle.train.specs.declared.Coefficients.{Coefficients}
 use Rattle.train.specs.Coefficients.{Within}
 use Rattle.train.specs.Gradient.{Moderate}
+use Rattle.train.specs.declared.refusal.Refusal as refusal
+use Rattle.train.specs.Number.{number}
 use Rattle.train.specs.Refusal.{Refusal, first_of}
 use Rattle.train.specs.Judged.{Rule}
-use Rattle.train.proofs.Refusals.{Rising, rising-before}
+use Rattle.train.proofs.Numbered.{numbered}
+use Rattle.train.proofs.Refusals.{Rising, rising-before, first-before}
 use Rattle.train.proofs.Judging.{Judges, ◌then◌, ◌and◌, no_more, at_least, weight-settles, length-settles, top-settles, gradient-settles, coefficients-settle, brake-settles}
 use Rattle.train_slope.specs.Slope.{di}
 use Rattle.step_braking.specs.Braking.{dp, strong}
@@ -25,6 +29,10 @@ pub record Accepted (k : Coefficients) (t : Train) (g : Gradient) (v v0 : Kmh) :
   pub length : t.length.0 ≤ 1000
   pub gradient : Moderate g
   pub speeds : Near v.0 v0.0
+
+-- what the first of two lists turns away, both do
+pub before_others : (r : refusal.Refusal) (a b : List Refusal) → number r ≡ first_of a → number r ≡ first_of (a ++ b)
+before_others r a b e = e ∙ sym (first-before a b (λ z. let l = numbered r in omega arith))
 
 -- the refusals go by the one order, so the first that applies is the answer (the train's `soonest` and `applies`)
 pub step-rising : (k : Coefficients) (t : Train) (g : Gradient) (v v0 : Kmh) → Rising 1 (step_refusals k t g v v0)

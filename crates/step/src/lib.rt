@@ -6,15 +6,17 @@
 ghost use Rattle.std.specs.Prelude.{◌≡◌, ◌≤◌};
 ghost use Rattle.train.specs.Gradient.{gradient_of};
 ghost use Rattle.train.specs.Refusal.{first_of};
+ghost use Rattle.train.specs.Number.{number, refusal_of};
 ghost use Rattle.step_braking.specs.Plan.{Small, Near, Enough};
 ghost use Rattle.step.specs.Answer.{inputs, refused, StepAnswers};
 ghost use Rattle.step.specs.Begin.{Starts, places_of};
 
 use step_braking::Course;
 use step_curve::Curve;
+use train::refusal::{self, Refusal};
 use train::{Coefficients, Gradient, Kmh, Millimetre, Train};
 
-// The four distances, or a refusal and zeros.
+// The four distances, or a refusal and zeros, since C reads it.
 #[repr(C)]
 #[derive(Clone, Copy)]
 pub struct Distances {
@@ -25,66 +27,54 @@ pub struct Distances {
     pub p: Millimetre,
 }
 
-// A refusal, or what the speeds do not change.
-#[derive(Clone, Copy)]
-pub enum Begun {
-    Refused(u32),
-    Ready(Course),
-}
-
-// What the inputs alone turn away, or 0.
-fn turned_away(k: Coefficients, train: Train, v: Kmh, v0: Kmh, g: Gradient) -> u32
-    ensures { result ≡ first_of (inputs k train g v v0) }
+// What the inputs alone turn away.
+fn turned_away(k: Coefficients, train: Train, v: Kmh, v0: Kmh, g: Gradient) -> Result<(), Refusal>
+    ensures { refusal_of result ≡ first_of (inputs k train g v v0) }
 {
-    let bad = train::refusal::of_train(train);
-    if bad > 0 {
-        return bad;
+    refusal::of_train(train)?;
+    if v.0 > 330 || v0.0 > 330 {
+        return Err(Refusal::Speed);
     }
-    let fast = v.0;
-    let slow = v0.0;
-    if fast > 330 {
-        return 3;
+    if v0.0 > v.0 {
+        return Err(Refusal::Target);
     }
-    if slow > 330 {
-        return 3;
-    }
-    if slow > fast {
-        return 4;
-    }
-    let steep = train::refusal::of_gradient(g);
-    if steep > 0 {
-        return steep;
-    }
-    train::refusal::of_coefficients(k)
+    refusal::of_gradient(g)?;
+    refusal::of_coefficients(k)
 }
 
 // What stands before every distance. The train is to be strong enough at the speed `at`, which lies between v0 and v.
-pub fn start(k: Coefficients, train: Train, v: Kmh, v0: Kmh, at: Kmh, gradient: i32) -> Begun
+pub fn start(
+    k: Coefficients,
+    train: Train,
+    v: Kmh,
+    v0: Kmh,
+    at: Kmh,
+    gradient: i32,
+) -> Result<Course, Refusal>
     requires { v0.0 ≤ v.0 → (v0.0 ≤ at.0) × (at.0 ≤ v.0) }
     ensures { Starts k train (gradient_of gradient) v v0 at result }
 {
     let g = train_slope::gradient_of(gradient);
-    let bad = turned_away(k, train, v, v0, g);
-    if bad > 0 {
-        return Begun::Refused(bad);
-    }
+    turned_away(k, train, v, v0, g)?;
     let c = step_course::course_of(k, train, g);
     if !step_braking::strength::is_strong(c, at, v0) {
-        return Begun::Refused(10);
+        return Err(Refusal::WeakBrake);
     }
-    Begun::Ready(c)
+    Ok(c)
 }
 
 // A refusal, with zeros.
-fn refused_with(n: u32) -> Distances
-    ensures { result ≡ refused n }
-{
-    Distances {
-        refusal: n,
-        ebi: Millimetre(0),
-        sbi: Millimetre(0),
-        w: Millimetre(0),
-        p: Millimetre(0),
+impl From<Refusal> for Distances {
+    ghost from_gives = { λ r answer. answer ≡ refused (number r) };
+
+    fn from(r: Refusal) -> Distances {
+        Distances {
+            refusal: r.number(),
+            ebi: Millimetre(0),
+            sbi: Millimetre(0),
+            w: Millimetre(0),
+            p: Millimetre(0),
+        }
     }
 }
 
@@ -107,9 +97,8 @@ fn distances_at(c: Course, v: Kmh, v0: Kmh) -> Distances
 pub fn step(k: Coefficients, train: Train, v: Kmh, v0: Kmh, gradient: i32) -> Distances
     ensures { StepAnswers k train (gradient_of gradient) v v0 result }
 {
-    let begun = start(k, train, v, v0, v, gradient);
-    match begun {
-        Begun::Refused(n) => refused_with(n),
-        Begun::Ready(c) => distances_at(c, v, v0),
+    match start(k, train, v, v0, v, gradient) {
+        Ok(c) => distances_at(c, v, v0),
+        Err(r) => Distances::from(r),
     }
 }

@@ -1,8 +1,7 @@
 -- Every number of the plan fits its type.
 use Prim.Native.Nat.{ℕ, ◌+◌, ◌*◌, ◌-◌, ◌≤◌, ◌<◌}
 use native.Mathlib.Omega.{arith}
-use native.Mathlib.Nat.{mul-le-mul, le_trans}
-use lib.Dec.{lit≤}
+use native.Mathlib.Nat.{mul-le-mul}
 use Rattle.step_braking.specs.declared.Course.{Course}
 use Rattle.step_braking.specs.Plan.{v9, s_of, beta_of, brake_of, gain_of, loss_of, Small, Near, a_most, beta_most, speed_most}
 
@@ -15,13 +14,10 @@ unfolding s_of
 s-small v h = omega arith
 
 module _ (c : Course) (v v0 : ℕ) (sm : Small c) (n : Near v v0) where
-  pub target_small : c.cr * v0 ≤ 100 * s_of v
-  target_small = let i = s-small v n.high in mul-le-mul (le_trans sm.cr (lit≤ tt)) (le_trans n.ahead i.1.0)
-
-  pub brake-small : c.power * (100 * s_of v - c.cr * v0) ≤ 589050000000
+  brake-small : c.power * (100 * s_of v - c.cr * v0) ≤ 589050000000
   brake-small = mul-le-mul {n₂ = 17850000} {m₂ = 33000} sm.power (let i = s-small v n.high in omega arith)
 
-  pub fast-small : (x : ℕ) → x ≤ 10 → x * (v - c.vc.0) ≤ 3300
+  fast-small : (x : ℕ) → x ≤ 10 → x * (v - c.vc.0) ≤ 3300
   fast-small x h = mul-le-mul {n₂ = 10} {m₂ = 330} h (let i = n.high in omega arith)
 
   pub slope-small : (x : ℕ) → x ≤ 4120200 → x * (100000 * s_of v) ≤ 135966600000000

@@ -8,7 +8,8 @@ use train::Kmh;
 pub mod strength;
 
 // T and tR + tf in 10⁻⁸ s; an uphill and a downhill slope's deceleration, and Kr · dr, in 10⁻⁷ m/s²;
-// cr in hundredths, nC (plus - minus) in thousandths, VC.
+// cr in hundredths, nC (plus - minus) in thousandths, VC. How large they are (`Small`) is no ghost field: laws that the promises name
+// (`between`, `sum_is`, `over-is`) are of any course.
 #[derive(Clone, Copy)]
 pub struct Course {
     pub t8: u64,

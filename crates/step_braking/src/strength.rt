@@ -1,6 +1,8 @@
-// How strongly the train brakes, and the speed that is left when it begins to.
-ghost use Rattle.std.specs.Prelude.{◌≡◌, ◌-◌, ◌≤◌};
-ghost use Rattle.step_braking.specs.Plan.{v9, s_of, gain_of, loss_of, strong_of, beta_of, Small, Near, Weakest};
+// How strongly the train brakes, and the speed that is left when it begins to. A speed and its target stand apart, with `Near` in each
+// contract, and are no struct: a row and a climb change the one alone, and `weakest` has two speeds over one target. `Enough`, which
+// stands in contracts above, is of a course and both speeds.
+ghost use Rattle.std.specs.Prelude.{◌≡◌, ◌≤◌};
+ghost use Rattle.step_braking.specs.Plan.{v9, s_of, gain_of, loss_of, strong_of, beta_of, a_most, Small, Near, Weakest};
 
 use super::Course;
 use train::Kmh;
@@ -13,41 +15,19 @@ pub struct Strength {
     pub loss: u64,
 }
 
-// The speed, or 1 at standstill, where K0 is 1.
-fn positive(v: Kmh) -> u64
-    ensures { result ≡ s_of v.0 }
-{
-    let n = v.0 as u64;
-    if n > 0 { n } else { 1 }
-}
-
-// How far a speed is above another, or 0.
-fn above(v: Kmh, low: Kmh) -> u64
-    ensures { result ≡ v.0 - low.0 }
-{
-    let n = v.0 as u64;
-    let m = low.0 as u64;
-    if n > m { n - m } else { 0 }
-}
-
 // The strength at one pair of speeds.
 pub fn at(c: Course, v: Kmh, v0: Kmh) -> Strength
     requires { Small c × Near v.0 v0.0 }
-    ensures { (result.unit ≡ s_of v.0) × (result.gain ≡ gain_of c v.0 v0.0) × (result.loss ≡ loss_of c v.0 v0.0) }
+    ensures { (result.unit ≡ s_of v.0) × (result.gain ≡ gain_of c v.0 v0.0) × (result.loss ≡ loss_of c v.0 v0.0) × (result.unit ≤ 330) × (result.gain ≤ a_most) × (result.loss ≤ a_most) }
 {
-    let vc = c.vc;
-    let slow = v0.0 as u64;
-    let unit = positive(v);
-    let fast = above(v, vc);
-    let brake = c.power * (100 * unit - c.cr * slow);
+    // 1 at standstill, where K0 is 1
+    let unit = u64::from(v.0.max(1));
+    let fast = u64::from(v.0.saturating_sub(c.vc.0));
+    let brake = c.power * (100 * unit - c.cr * u64::from(v0.0));
     let slope = 100000 * unit;
     let gain = brake * (1000 + c.plus * fast) + c.up7 * slope;
     let loss = brake * (c.minus * fast) + c.dn7 * slope;
-    Strength {
-        unit: unit,
-        gain: gain,
-        loss: loss,
-    }
+    Strength { unit, gain, loss }
 }
 
 // The strength at the one of two speeds at which the train brakes the weaker: at no speed between them does it brake weaker.
@@ -80,11 +60,12 @@ pub fn is_strong(c: Course, v: Kmh, v0: Kmh) -> bool
 }
 
 // A speed in m/s / (9·10¹⁵).
+#[tactic(auto, unfolding(crate::specs::Plan::v9))]
 pub fn fine(v: Kmh) -> u64
     requires { v.0 ≤ 330 }
     ensures { result ≡ v9 v.0 }
 {
-    v.0 as u64 * 2500000000000000
+    u64::from(v.0) * 2500000000000000
 }
 
 // Vβ, as fine: the speed after T, never below the target.
@@ -92,9 +73,6 @@ pub fn beta(c: Course, v: Kmh, v0: Kmh) -> u64
     requires { Small c × Near v.0 v0.0 }
     ensures { result ≡ beta_of c v.0 v0.0 }
 {
-    let target = fine(v0);
     let speed = fine(v) + 9 * c.dn7 * c.t8;
-    let lost = 9 * c.up7 * c.t8;
-    let floor = lost + target;
-    if speed > floor { speed - lost } else { target }
+    speed.saturating_sub(9 * c.up7 * c.t8).max(fine(v0))
 }

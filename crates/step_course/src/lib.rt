@@ -15,26 +15,17 @@ pub fn course_of(k: Coefficients, train: Train, g: Gradient) -> Course
     requires { Within k × (train.weight ≤ 160) × (train.length.0 ≤ 1000) × Moderate g }
     ensures { IsCourse k train g result }
 {
-    let nc = k.nc;
-    let vc = k.vc;
-    let inertia = k.inertia;
-    let tf8 = k.dt as u64 * train_delay::of_train(train) as u64;
-    let t8 = k.h as u64 * 10000000 + tf8;
-    let r8 = 100000000 + tf8;
-    let pull = train_slope::pull_of(inertia, g);
-    let power = k.kr as u64 * train_slope::nominal(train.weight);
-    let cr = k.cr as u64;
-    let plus = nc.plus as u64;
-    let minus = nc.minus as u64;
+    let tf8 = u64::from(k.dt) * u64::from(train_delay::of_train(train));
+    let pull = train_slope::pull_of(k.inertia, g);
     Course {
-        t8: t8,
-        r8: r8,
+        t8: u64::from(k.h) * 10000000 + tf8,
+        r8: 100000000 + tf8,
         up7: pull.up7,
         dn7: pull.dn7,
-        power: power,
-        cr: cr,
-        plus: plus,
-        minus: minus,
-        vc: vc,
+        power: u64::from(k.kr) * train_slope::nominal(train.weight),
+        cr: u64::from(k.cr),
+        plus: u64::from(k.nc.plus),
+        minus: u64::from(k.nc.minus),
+        vc: k.vc,
     }
 }

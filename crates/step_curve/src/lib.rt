@@ -23,6 +23,7 @@ pub enum Curve {
 
 // What one pair of speeds gives, for every curve: the deceleration in m/s² / (10¹² s), s the greater of V and 1 km/h;
 // Vβ and V in m/s / (9·10¹⁵); the braking part of a sum; what the sum is over to be millimetres.
+// How large they are (`Bounded`) is no ghost field: laws that the promises name (`sum_is`, `over-is`) are of any terms.
 #[derive(Clone, Copy)]
 pub struct Terms {
     pub a: u64,
@@ -48,19 +49,17 @@ pub fn terms_at(c: Course, v: Kmh, v0: Kmh) -> Terms
     let target = strength::fine(v0);
     let s = strength::at(c, v, v0);
     let a = s.gain - s.loss;
-    let b = strength::beta(c, v, v0);
-    let square = wide::product(b - target, b + target);
-    // as a u32: the product then leaves out the upper half
-    let unit = (50000 * s.unit) as u32;
-    let part = wide::times(square, unit as u64);
+    let beta = strength::beta(c, v, v0);
+    let square = wide::product(beta - target, beta + target);
+    let part = wide::times(square, 50000 * s.unit);
     // 81·10²⁰ a, in one product
     let scale = wide::product(810 * a, 10000000000000000000);
     Terms {
-        a: a,
-        beta: b,
-        speed: speed,
-        part: part,
-        scale: scale,
+        a,
+        beta,
+        speed,
+        part,
+        scale,
     }
 }
 
@@ -93,12 +92,11 @@ fn sum_of(curve: Curve, c: Course, m: Terms) -> Wide
     requires { Small c × Bounded m }
     ensures { value_of result ≡ sum_of curve c m }
 {
-    let part = m.part;
     let ahead = ahead_of(curve);
     let steady = wide::product(c.t8 + ahead.service * c.r8, m.beta);
     let warning = wide::product(ahead.warning * 150000000, m.speed);
     let run = wide::sum(steady, warning);
-    wide::sum(wide::times(run, 9 * m.a), part)
+    wide::sum(wide::times(run, 9 * m.a), m.part)
 }
 
 // One curve's distance.
@@ -106,8 +104,7 @@ pub fn distance(curve: Curve, c: Course, m: Terms) -> Millimetre
     requires { Small c × Bounded m }
     ensures { result.0 ≡ raised (sum_of curve c m over value_of m.scale) }
 {
-    let scale = m.scale;
-    Millimetre(wide_quotient::quotient_up(sum_of(curve, c, m), scale))
+    Millimetre(wide_quotient::quotient_up(sum_of(curve, c, m), m.scale))
 }
 
 // Whether it is at most d, without a division.
@@ -115,8 +112,5 @@ pub fn fits(curve: Curve, c: Course, m: Terms, d: Metre) -> bool
     requires { Small c × Bounded m }
     ensures { result ≡ leb (sum_of curve c m) (value_of m.scale * (1000 * d.0)) }
 {
-    let scale = m.scale;
-    let sum = sum_of(curve, c, m);
-    let end = wide::times(scale, 1000 * d.0 as u64);
-    wide::at_most(sum, end)
+    sum_of(curve, c, m) <= wide::times(m.scale, 1000 * u64::from(d.0))
 }

@@ -52,9 +52,9 @@ module _ (A M s D : ℕ) where
       thousand x r y h k = le_trans k (cert (x ∷ r ∷ y ∷ []) (times (num 1000) x2 (x1 ⊗ x0) h done) (num 1000 ⊗ x2) (num 1000 ⊗ x1 ⊗ x0) refl)
 
 -- what n mm leave beside the run is no longer than a word in what a counts
-pub room_fits : (a part low high : ℕ) → low ≤ high → part * (a + 1) ≤ 9131571127944172710 → a ≤ 6755606550 → a * (1000 * ((low + part + 999) / 1000) - high) ≤ 9131577876795116160
-room_fits a part low high h k i =
-    let room = 1000 * ((low + part + 999) / 1000) - high in
+pub room_fits : (a part low high n : ℕ) → low ≤ high → 1000 * n ≤ low + part + 999 → part * (a + 1) ≤ 9131571127944172710 → a ≤ 6755606550 → a * (1000 * n - high) ≤ 9131577876795116160
+room_fits a part low high n h m k i =
+    let room = 1000 * n - high in
     let e : a * room ≤ part * (a + 1) + 999 * a = cert (a ∷ part ∷ room ∷ []) (times x0 x2 (x1 ⊕ num 999) (omega arith) done) (x0 ⊗ x2) (x1 ⊗ (x0 ⊕ num 1) ⊕ num 999 ⊗ x0) refl in
     omega (arith, e)
 

@@ -38,7 +38,7 @@ fn bounds_with(c: Course, s: Strength, v: Kmh, v0: Kmh) -> Bounds
     ensures { IsBounds c (s.gain - s.loss) s.unit v.0 v0.0 result }
 {
     // V0 is a whole number of these units
-    let target = 2500000 * v0.0 as u64;
+    let target = 2500000 * u64::from(v0.0);
     let low = strength::beta(c, v, v0) / 1000000000;
     let high = low + 1;
     let a = 81 * (s.gain - s.loss) / 32000000;
@@ -46,9 +46,9 @@ fn bounds_with(c: Course, s: Strength, v: Kmh, v0: Kmh) -> Bounds
     let most = ((high - target) * (high + target) / 64 + 1) * s.unit;
     Bounds {
         beta: low,
-        a: a,
-        part: part,
-        most: most,
+        a,
+        part,
+        most,
     }
 }
 
@@ -67,12 +67,9 @@ fn run_at(curve: Curve, c: Course, beta: u64, v: Kmh) -> Run
 {
     let ahead = step_curve::ahead_of(curve);
     let steady = c.t8 + ahead.service * c.r8;
-    let low = (steady * beta + ahead.warning * 375000000000000 * v.0 as u64) / 900000000;
+    let low = (steady * beta + ahead.warning * 375000000000000 * u64::from(v.0)) / 900000000;
     let high = low + steady / 900000000 + 2;
-    Run {
-        low: low,
-        high: high,
-    }
+    Run { low, high }
 }
 
 // A curve's distance from the bounds of its speeds.
@@ -81,13 +78,10 @@ pub fn distance(curve: Curve, c: Course, v: Kmh, v0: Kmh, b: Bounds) -> Millimet
     ensures { result.0 ≡ place_of curve c v.0 v0.0 }
 {
     let run = run_at(curve, c, b.beta, v);
-    let n = (run.low + b.part + 999) / 1000;
+    let n = (run.low + b.part).div_ceil(1000);
     let end = 1000 * n;
-    if run.high <= end {
-        if b.most <= b.a * (end - run.high) {
-            let mm = n as u32;
-            return Millimetre(mm);
-        }
+    if run.high <= end && b.most <= b.a * (end - run.high) {
+        return Millimetre(n as u32);
     }
     step_curve::distance(curve, c, step_curve::terms_at(c, v, v0))
 }
@@ -96,12 +90,7 @@ pub fn distance(curve: Curve, c: Course, v: Kmh, v0: Kmh, b: Bounds) -> Millimet
 fn room_of(d: Metre) -> u64
     ensures { (result ≤ 1000000 * d.0) × (result ≤ 500000000000) }
 {
-    let n = d.0 as u64;
-    if n > 500000 {
-        500000000000
-    } else {
-        1000000 * n
-    }
+    1000000 * u64::from(d.0.min(500000))
 }
 
 // That at every speed from one to another the train is strong enough and its P distance at most d, where the bounds show it. It

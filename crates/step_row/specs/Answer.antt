@@ -1,5 +1,5 @@
 -- Document 01, "Step distances" and "What is turned away", and document 02, Card 5: what a row answers.
-use Rattle.std.specs.Prelude.{◌≡◌, Bool, not, cond, List, [], ◌∷◌, ◌++◌, ℕ, ◌+◌, ◌-◌, ◌≤◌, ◌<◌, ltb, eqb, length, drop, get_or}
+use Rattle.std.specs.Prelude.{◌≡◌, Bool, not, cond, List, [], ◌∷◌, ◌++◌, ℕ, ◌+◌, ◌-◌, ◌≤◌, ◌<◌, ltb, eqb, length, drop, get_or, Result, Ok, Err}
 use Rattle.lists.specs.Counted.{up_to, every}
 use Rattle.exact.specs.Fraction.{Fraction, whole, ◌over◌, ◌+q◌, ◌*q◌, ◌≤q◌, ◌<q◌, Least}
 use Rattle.train.specs.declared.Kmh.{Kmh}
@@ -8,6 +8,8 @@ use Rattle.train.specs.declared.Written.{Written}
 use Rattle.train.specs.declared.Gradient.{Gradient}
 use Rattle.train.specs.declared.Coefficients.{Coefficients}
 use Rattle.train.specs.Units.{kmh}
+use Rattle.train.specs.declared.refusal.Refusal as refusal
+use Rattle.train.specs.Number.{number}
 use Rattle.train.specs.Refusal.{Refusal, ◌gives◌, first_of}
 use Rattle.train.specs.Judged.{Rule, ◌keeps◌, Judged}
 use Rattle.train.specs.Lent.{FirstDemand}
@@ -16,6 +18,11 @@ use Rattle.step_braking.specs.Braking.{dp, strong}
 use Rattle.step_curve.specs.declared.Curve.{Curve}
 use Rattle.step_curve.specs.Step.{formula, distance}
 use Rattle.step.specs.Answer.{inputs, input_rules}
+
+-- what is answered of a row's places, or of a refusal
+abbrev pub answer_of : Result ℕ refusal.Refusal → Written
+answer_of (Ok n) = record { refusal = 0; length = n }
+answer_of (Err r) = record { refusal = number r; length = 0 }
 
 -- how many speeds from V0 to the top speed
 abbrev pub speeds : Train → Kmh → ℕ

@@ -1,106 +1,58 @@
-// Where the inputs of the tables come from. Each takes any number and goes round.
-use step_curve::Curve;
+// Where the inputs of the tables come from.
+ghost use Rattle.std.specs.Prelude.{◌<◌, length};
+
 use train::{BrakeType, Kmh, Metre, Train};
 
-const WEIGHTS: [u32; 3] = [45, 100, 160];
+// A line's place in its table's grid. Each input takes its turn of the number and leaves the rest to the next, as digits do; the
+// first goes round fastest.
+#[derive(Drop)]
+pub struct Place(pub usize);
 
-const LENGTHS: [u32; 5] = [0, 200, 953, 954, 1000];
+impl Place {
+    // A number below so many.
+    pub fn below(&mut self, many: usize) -> usize
+        requires { 0 < many }
+        ensures { result < many }
+    {
+        let turn = self.0 % many;
+        self.0 /= many;
+        turn
+    }
 
-// On either side of the thresholds of Ki and, for the weakest train, of refusal 10 in both models; and both ends.
-const GRADIENTS: [i32; 14] = [
-    -35, -29, -28, -22, -21, -20, -19, -18, -17, -1, 0, 1, 10, 35,
-];
-
-// A speed and the target of the same place; the last two are refused.
-const SPEEDS: [u32; 15] = [0, 1, 1, 2, 30, 30, 90, 90, 90, 150, 151, 330, 330, 50, 331];
-
-const TARGETS: [u32; 15] = [0, 0, 1, 1, 0, 30, 0, 25, 90, 60, 60, 0, 330, 51, 0];
-
-// Of the ramp; the first and the last are refused.
-const CREEPS: [u32; 12] = [0, 1, 2, 5, 10, 20, 36, 50, 75, 99, 100, 101];
-
-// A dead time and the rise time of the same place; the last is refused.
-const DEAD_TIMES: [u32; 6] = [200, 2000, 0, 0, 2000, 2001];
-
-const RISE_TIMES: [u32; 6] = [400, 3000, 1, 3000, 1, 400];
-
-// The runs told at every speed, where distance and moment can be seen to rise with it: on the level, down and up.
-const CLIMB_WEIGHTS: [u32; 3] = [100, 45, 160];
-
-const CLIMB_GRADIENTS: [i32; 3] = [0, -28, 35];
-
-const CLIMB_DEAD_TIMES: [u32; 3] = [200, 2000, 2000];
-
-const CLIMB_RISE_TIMES: [u32; 3] = [400, 3000, 1];
-
-pub fn weight(k: usize) -> u32 {
-    WEIGHTS[k % 3]
-}
-
-pub fn length(k: usize) -> u32 {
-    LENGTHS[k % 5]
-}
-
-pub fn gradient(k: usize) -> i32 {
-    GRADIENTS[k % 14]
-}
-
-pub fn speed(k: usize) -> u32 {
-    SPEEDS[k % 15]
-}
-
-pub fn target(k: usize) -> u32 {
-    TARGETS[k % 15]
-}
-
-pub fn creep(k: usize) -> u32 {
-    CREEPS[k % 12]
-}
-
-pub fn dead_time(k: usize) -> u32 {
-    DEAD_TIMES[k % 6]
-}
-
-pub fn rise_time(k: usize) -> u32 {
-    RISE_TIMES[k % 6]
-}
-
-pub fn climb_weight(k: usize) -> u32 {
-    CLIMB_WEIGHTS[k % 3]
-}
-
-pub fn climb_gradient(k: usize) -> i32 {
-    CLIMB_GRADIENTS[k % 3]
-}
-
-pub fn climb_dead_time(k: usize) -> u32 {
-    CLIMB_DEAD_TIMES[k % 3]
-}
-
-pub fn climb_rise_time(k: usize) -> u32 {
-    CLIMB_RISE_TIMES[k % 3]
-}
-
-pub fn curve(k: usize) -> Curve {
-    match k % 4 {
-        0 => Curve::Ebi,
-        1 => Curve::Sbi,
-        2 => Curve::W,
-        _ => Curve::P,
+    // One of the values.
+    pub fn of<T: Copy>(&mut self, values: &[T]) -> T
+        requires { 0 < length values.now }
+    {
+        values[self.below(values.len())]
     }
 }
 
+pub const WEIGHTS: [u32; 3] = [45, 100, 160];
+
+// A dead time and its rise time; the last is refused.
+pub const TIMES: [(u32, u32); 6] = [
+    (200, 400),
+    (2000, 3000),
+    (0, 1),
+    (0, 3000),
+    (2000, 1),
+    (2001, 400),
+];
+
 // Passenger and freight, each with the electropneumatic brake working and not.
-pub fn train(kind: usize, weight: u32, length: u32, top: u32) -> Train {
-    let brake = if kind % 2 == 0 {
-        BrakeType::Passenger
-    } else {
-        BrakeType::Freight
-    };
+pub const BRAKES: [(BrakeType, bool); 4] = [
+    (BrakeType::Passenger, true),
+    (BrakeType::Freight, true),
+    (BrakeType::Passenger, false),
+    (BrakeType::Freight, false),
+];
+
+pub fn train(kind: (BrakeType, bool), weight: u32, length: u32, top: u32) -> Train {
+    let (brake, electropneumatic) = kind;
     Train {
-        brake: brake,
-        electropneumatic: kind / 2 % 2 == 0,
-        weight: weight,
+        brake,
+        electropneumatic,
+        weight,
         length: Metre(length),
         top: Kmh(top),
     }

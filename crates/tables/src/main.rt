@@ -13,91 +13,106 @@ mod text;
 mod ties;
 mod walks;
 
+use grid::Place;
 use std::io::{self, BufWriter, Write};
 
-// A line of a table, by its number in the table.
-fn print_line(out: &mut impl Write, table: u32, k: usize) -> io::Result<()> {
-    match table {
-        0 => models::ceilings_line(out, k),
-        1 => models::stored_line(out, k),
-        2 => models::step_line(out, k),
-        3 => models::row_line(out, k),
-        4 => models::ramp_line(out, k),
-        5 => models::climb_line(out, k),
-        6 => sheets::sheet_line(out, k),
-        7 => sheets::query_line(out, k),
-        8 => tails::tail_line(out, k),
-        9 => owns::own_step_line(out, k),
-        10 => owns::own_row_line(out, k),
-        11 => owns::own_ramp_line(out, k),
-        12 => owns::own_query_line(out, k),
-        13 => walks::back_line(out, k),
-        14 => ties::tie_line(out, k),
-        _ => ties::tie_back_line(out, k),
-    }
-}
+// What the lines of every query, and of every step, have behind their inputs.
+const QUERIED: &str = "refusal release permitted mark W SBI EBI overlap_stretch ahead_stretch";
 
-fn print_table(out: &mut impl Write, table: u32, lines: usize) -> io::Result<()> {
+const STEPPED: &str = "refusal end stretch i least least_stretch";
+
+// A table has as many lines as its grid has places.
+fn print_table<W: Write, F: Fn(&mut W, Place) -> io::Result<()>>(
+    out: &mut W,
+    lines: usize,
+    line: F,
+) -> io::Result<()>
+    requires { F.IsAlwaysCallable line }
+{
     for k in 0..lines {
-        print_line(out, table, k)?;
+        line(out, Place(k))?;
     }
     Ok(())
 }
 
-// Each table has as many lines as its grid has places.
-fn main(rt: HostRuntime) -> io::Result<()> {
-    let out = &mut BufWriter::new(rt.alloc(), rt.stdout())?;
-    out.write_all(b"# ceilings V = refusal W SBI EBI\n")?;
-    print_table(out, 0, 332)?;
-    out.write_all(b"# stored V = refusal W SBI EBI\n")?;
-    print_table(out, 1, 332)?;
-    out.write_all(b"# step freight EP BW L top V V0 i = refusal EBI SBI W P\n")?;
-    print_table(out, 2, 12600)?;
-    out.write_all(b"# row curve freight EP BW L top V0 i = refusal length distances\n")?;
-    print_table(out, 3, 96)?;
-    out.write_all(b"# ramp BW i V TM TR = refusal distance moment\n")?;
-    print_table(out, 4, 3024)?;
-    print_table(out, 5, 306)?;
-    out.write_all(b"# sheet start i place overlap end number")?;
-    out.write_all(b" = refusal length ; refusal start i ; refusal place overlap")?;
-    out.write_all(b" ; refusal end start i next\n")?;
-    print_table(out, 6, 4320)?;
-    out.write_all(b"# query freight EP BW L top TM TR i overlap signal head")?;
-    print_queries(out, 7, 8640)?;
-    out.write_all(b"# tail L i overlap head")?;
-    print_queries(out, 8, 560)?;
-    print_own(out)?;
-    out.write_all(b"# back place L i signal head step")?;
-    print_steps(out, 13, 840)?;
-    out.write_all(b"# tie L i j k overlap head")?;
-    print_queries(out, 14, 600)?;
-    out.write_all(b"# tie_back L i j k head step")?;
-    print_steps(out, 15, 512)?;
-    // what a drop writes out may fail unseen
-    out.flush()
+fn print_models<W: Write>(out: &mut W) -> io::Result<()> {
+    writeln!(out, "# ceilings V = refusal W SBI EBI")?;
+    print_table(
+        out,
+        332,
+        |out, at| models::limits_line(out, at, "ceilings", ceilings::ceilings),
+    )?;
+    writeln!(out, "# stored V = refusal W SBI EBI")?;
+    print_table(
+        out,
+        332,
+        |out, at| models::limits_line(out, at, "stored", ceilings_stored::stored),
+    )?;
+    writeln!(
+        out,
+        "# step freight EP BW L top V V0 i = refusal EBI SBI W P"
+    )?;
+    print_table(out, 12600, models::step_line)?;
+    writeln!(
+        out,
+        "# row curve freight EP BW L top V0 i = refusal length distances"
+    )?;
+    print_table(out, 96, models::row_line)?;
+    writeln!(out, "# ramp BW i V TM TR = refusal distance moment")?;
+    print_table(out, 3024, models::ramp_line)?;
+    print_table(out, 306, models::climb_line)
 }
 
-// What the lines of every query, and of every step, have behind their inputs.
-fn print_queries(out: &mut impl Write, table: u32, lines: usize) -> io::Result<()> {
-    out.write_all(b" = refusal release permitted mark W SBI EBI overlap_stretch ahead_stretch\n")?;
-    print_table(out, table, lines)
-}
-
-fn print_steps(out: &mut impl Write, table: u32, lines: usize) -> io::Result<()> {
-    out.write_all(b" = refusal end stretch i least least_stretch\n")?;
-    print_table(out, table, lines)
+fn print_sheets<W: Write>(out: &mut W) -> io::Result<()> {
+    write!(
+        out,
+        "# sheet start i place overlap end number = refusal length"
+    )?;
+    writeln!(
+        out,
+        " ; refusal start i ; refusal place overlap ; refusal end start i next"
+    )?;
+    print_table(out, 4320, sheets::sheet_line)?;
+    writeln!(
+        out,
+        "# query freight EP BW L top TM TR i overlap signal head = {QUERIED}"
+    )?;
+    print_table(out, 8640, sheets::query_line)?;
+    writeln!(out, "# tail L i overlap head = {QUERIED}")?;
+    print_table(out, 560, tails::tail_line)
 }
 
 // The same with a train's own coefficients.
-fn print_own(out: &mut impl Write) -> io::Result<()> {
-    out.write_all(b"# own_step dt h kr cr nc vc ki1 ki2 ki3 i1 i2 V V0 i = refusal EBI SBI W P\n")?;
-    print_table(out, 9, 750)?;
-    out.write_all(
-        b"# own_row dt h kr cr nc vc ki1 ki2 ki3 i1 i2 V0 i = refusal length distances\n",
+fn print_own<W: Write>(out: &mut W) -> io::Result<()> {
+    let own = "dt h kr cr nc vc ki1 ki2 ki3 i1 i2";
+    writeln!(out, "# own_step {own} V V0 i = refusal EBI SBI W P")?;
+    print_table(out, 750, owns::own_step_line)?;
+    writeln!(out, "# own_row {own} V0 i = refusal length distances")?;
+    print_table(out, 50, owns::own_row_line)?;
+    writeln!(
+        out,
+        "# own_ramp ki1 ki2 ki3 i1 i2 i V = refusal distance moment"
     )?;
-    print_table(out, 10, 50)?;
-    out.write_all(b"# own_ramp ki1 ki2 ki3 i1 i2 i V = refusal distance moment\n")?;
-    print_table(out, 11, 198)?;
-    out.write_all(b"# own_query dt h kr cr nc vc ki1 ki2 ki3 i1 i2 i overlap head")?;
-    print_queries(out, 12, 400)
+    print_table(out, 198, owns::own_ramp_line)?;
+    writeln!(out, "# own_query {own} i overlap head = {QUERIED}")?;
+    print_table(out, 400, owns::own_query_line)
+}
+
+fn print_back<W: Write>(out: &mut W) -> io::Result<()> {
+    writeln!(out, "# back place L i signal head step = {STEPPED}")?;
+    print_table(out, 840, walks::back_line)?;
+    writeln!(out, "# tie L i j k overlap head = {QUERIED}")?;
+    print_table(out, 600, ties::tie_line)?;
+    writeln!(out, "# tie_back L i j k head step = {STEPPED}")?;
+    print_table(out, 512, ties::tie_back_line)
+}
+
+fn main(rt: HostRuntime) -> io::Result<()> {
+    let out = &mut BufWriter::new(rt.alloc(), rt.stdout())?;
+    print_models(out)?;
+    print_sheets(out)?;
+    print_own(out)?;
+    print_back(out)?;
+    // what a drop writes out may fail unseen
+    out.flush()
 }

@@ -1,143 +1,124 @@
 // Lines of the ceilings, the step model and the ramp.
-use super::{grid, text};
+use super::grid::{self, BRAKES, Place, TIMES, WEIGHTS};
+use super::text::Fields;
 use ceilings::Limits;
-use ramp::Stop;
 use std::io::{self, Write};
-use step::Distances;
-use train::Kmh;
+use step_curve::Curve;
+use train::{Kmh, Written};
+
+const LENGTHS: [u32; 5] = [0, 200, 953, 954, 1000];
+
+// On either side of the thresholds of Ki and, for the weakest train, of refusal 10 in both models; and both ends.
+const GRADIENTS: [i32; 14] = [
+    -35, -29, -28, -22, -21, -20, -19, -18, -17, -1, 0, 1, 10, 35,
+];
+
+// A speed and its target; the last two are refused.
+const SPEEDS: [(u32, u32); 15] = [
+    (0, 0),
+    (1, 0),
+    (1, 1),
+    (2, 1),
+    (30, 0),
+    (30, 30),
+    (90, 0),
+    (90, 25),
+    (90, 90),
+    (150, 60),
+    (151, 60),
+    (330, 0),
+    (330, 330),
+    (50, 51),
+    (331, 0),
+];
+
+// A curve and the number that it is told by.
+const CURVES: [(u32, Curve); 4] = [
+    (0, Curve::Ebi),
+    (1, Curve::Sbi),
+    (2, Curve::W),
+    (3, Curve::P),
+];
 
 const ROW_GRADIENTS: [i32; 3] = [-20, 0, 10];
 
-// A speed, and the answer of either way to its ceilings.
-fn limits(out: &mut impl Write, v: u32, answer: Limits) -> io::Result<()> {
-    let w = answer.w;
-    let sbi = answer.sbi;
-    let ebi = answer.ebi;
-    text::field(out, v)?;
-    text::equals(out)?;
-    text::field(out, answer.refusal)?;
-    text::field(out, w.0)?;
-    text::field(out, sbi.0)?;
-    text::field(out, ebi.0)?;
-    text::end(out)
+// Of the ramp; the first and the last are refused.
+const CREEPS: [u32; 12] = [0, 1, 2, 5, 10, 20, 36, 50, 75, 99, 100, 101];
+
+// The runs told at every speed, where distance and moment can be seen to rise with it: on the level, down and up. Each has a braked
+// weight, a gradient, a dead time and a rise time.
+const CLIMBS: [(u32, i32, (u32, u32)); 3] = [
+    (100, 0, (200, 400)),
+    (45, -28, (2000, 3000)),
+    (160, 35, (2000, 1)),
+];
+
+// Of either way to the ceilings: every speed, and one past the span.
+pub fn limits_line<F: Fn(Kmh) -> Limits>(
+    out: &mut impl Write,
+    mut at: Place,
+    name: &str,
+    limits_of: F,
+) -> io::Result<()>
+    requires { F.IsAlwaysCallable limits_of }
+{
+    let v = at.below(332) as u32;
+    writeln!(out, "{name} {v} = {}", Fields(limits_of(Kmh(v))))
 }
 
-pub fn ceilings_line(out: &mut impl Write, k: usize) -> io::Result<()> {
-    let v = (k % 332) as u32;
-    out.write_all(b"ceilings")?;
-    limits(out, v, ceilings::ceilings(Kmh(v)))
-}
-
-pub fn stored_line(out: &mut impl Write, k: usize) -> io::Result<()> {
-    let v = (k % 332) as u32;
-    out.write_all(b"stored")?;
-    limits(out, v, ceilings_stored::stored(Kmh(v)))
-}
-
-pub fn distances(out: &mut impl Write, d: Distances) -> io::Result<()> {
-    let ebi = d.ebi;
-    let sbi = d.sbi;
-    let w = d.w;
-    let p = d.p;
-    text::field(out, d.refusal)?;
-    text::field(out, ebi.0)?;
-    text::field(out, sbi.0)?;
-    text::field(out, w.0)?;
-    text::field(out, p.0)
-}
-
-pub fn step_line(out: &mut impl Write, k: usize) -> io::Result<()> {
-    let v = grid::speed(k);
-    let v0 = grid::target(k);
-    let i = grid::gradient(k / 15);
-    let train = grid::train(k / 3150, grid::weight(k / 1050), grid::length(k / 210), 160);
+pub fn step_line(out: &mut impl Write, mut at: Place) -> io::Result<()> {
+    let (v, v0) = at.of(&SPEEDS);
+    let i = at.of(&GRADIENTS);
+    let length = at.of(&LENGTHS);
+    let weight = at.of(&WEIGHTS);
+    let train = grid::train(at.of(&BRAKES), weight, length, 160);
     let d = step::step(train::first_values(), train, Kmh(v), Kmh(v0), i);
-    out.write_all(b"step")?;
-    text::train(out, train)?;
-    text::field(out, v)?;
-    text::field(out, v0)?;
-    text::gradient(out, i)?;
-    text::equals(out)?;
-    distances(out, d)?;
-    text::end(out)
-}
-
-pub fn places(out: &mut impl Write, row: &[u32]) -> io::Result<()> {
-    for place in row {
-        text::field(out, *place)?;
-    }
-    Ok(())
+    writeln!(out, "step {} {v} {v0} {i} = {}", Fields(train), Fields(d))
 }
 
 // A row of EBI, SBI, W or P (0 to 3) from 0 or 60 km/h to 330. What it does not need of the lent list stays as it was, 0.
-pub fn row_line(out: &mut impl Write, k: usize) -> io::Result<()> {
-    let number = k % 4;
-    let v0 = (60 * (k / 4 % 2)) as u32;
-    let i = ROW_GRADIENTS[k / 8 % 3];
-    let train = grid::train(k / 24, 100, 954, 330);
-    let mut row = [0u32; 331];
-    let first = train::first_values();
-    let written = step_row::row(grid::curve(number), first, train, Kmh(v0), i, &mut row);
-    out.write_all(b"row")?;
-    text::field(out, number as u32)?;
-    text::train(out, train)?;
-    text::field(out, v0)?;
-    text::gradient(out, i)?;
-    text::equals(out)?;
-    text::field(out, written.refusal)?;
-    text::field(out, written.length)?;
-    places(out, &row)?;
-    text::end(out)
+pub fn row_line(out: &mut impl Write, mut at: Place) -> io::Result<()> {
+    let (number, curve) = at.of(&CURVES);
+    let v0 = at.of(&[0, 60]);
+    let i = at.of(&ROW_GRADIENTS);
+    let train = grid::train(at.of(&BRAKES), 100, 954, 330);
+    let mut row = [0; 331];
+    let written = step_row::row(curve, train::first_values(), train, Kmh(v0), i, &mut row);
+    write!(out, "row {number} {} {v0} {i}", Fields(train))?;
+    row_rest(out, written, &row)
 }
 
-pub fn stop(out: &mut impl Write, answer: Stop) -> io::Result<()> {
-    let distance = answer.distance;
-    text::field(out, answer.refusal)?;
-    text::field(out, distance.0)?;
-    text::field(out, answer.moment)
+pub fn row_rest(out: &mut impl Write, written: Written, row: &[u32]) -> io::Result<()> {
+    write!(out, " = {}", Fields(written))?;
+    for place in row {
+        write!(out, " {place}")?;
+    }
+    writeln!(out)
 }
 
-fn run_line(out: &mut impl Write, weight: u32, i: i32, v: u32, tm: u32, tr: u32) -> io::Result<()> {
-    let first = train::first_values();
-    let inertia = first.inertia;
-    let answer = ramp::ramp(weight, i, Kmh(v), tm, tr, inertia);
-    out.write_all(b"ramp")?;
-    text::field(out, weight)?;
-    text::gradient(out, i)?;
-    text::field(out, v)?;
-    text::field(out, tm)?;
-    text::field(out, tr)?;
-    text::equals(out)?;
-    stop(out, answer)?;
-    text::end(out)
+fn run_line(
+    out: &mut impl Write,
+    weight: u32,
+    i: i32,
+    times: (u32, u32),
+    v: u32,
+) -> io::Result<()> {
+    let (tm, tr) = times;
+    let stop = ramp::ramp(weight, i, Kmh(v), tm, tr, train::first_values().inertia);
+    writeln!(out, "ramp {weight} {i} {v} {tm} {tr} = {}", Fields(stop))
 }
 
-pub fn ramp_line(out: &mut impl Write, k: usize) -> io::Result<()> {
-    let tm = grid::dead_time(k);
-    let tr = grid::rise_time(k);
-    let v = grid::creep(k / 6);
-    run_line(
-        out,
-        grid::weight(k / 1008),
-        grid::gradient(k / 72),
-        v,
-        tm,
-        tr,
-    )
+pub fn ramp_line(out: &mut impl Write, mut at: Place) -> io::Result<()> {
+    let times = at.of(&TIMES);
+    let v = at.of(&CREEPS);
+    let i = at.of(&GRADIENTS);
+    let weight = at.of(&WEIGHTS);
+    run_line(out, weight, i, times, v)
 }
 
 // Every speed of a run, and one past each end of the span.
-pub fn climb_line(out: &mut impl Write, k: usize) -> io::Result<()> {
-    let run = k / 102;
-    let v = (k % 102) as u32;
-    let tm = grid::climb_dead_time(run);
-    let tr = grid::climb_rise_time(run);
-    run_line(
-        out,
-        grid::climb_weight(run),
-        grid::climb_gradient(run),
-        v,
-        tm,
-        tr,
-    )
+pub fn climb_line(out: &mut impl Write, mut at: Place) -> io::Result<()> {
+    let v = at.below(102) as u32;
+    let (weight, i, times) = at.of(&CLIMBS);
+    run_line(out, weight, i, times, v)
 }

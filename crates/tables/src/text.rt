@@ -1,87 +1,138 @@
-// The parts of a line.
-use std::io::{self, Write};
-use train::{BrakeType, Coefficients, Inertia, Train};
+// What a record prints.
+use ceilings::Limits;
+use query::Answer;
+use ramp::Stop;
+use sheet_lookup::{Signal, Stretch};
+use sheet_mark::Move;
+use sheet_walk::Back;
+use std::fmt::{self, Display};
+use step::Distances;
+use train::{BrakeType, Coefficients, Gradient, Inertia, Signed, Train, Written};
 
-// A space and a number.
-pub fn field(out: &mut impl Write, n: u32) -> io::Result<()> {
-    write!(out, " {n}")
-}
+// A record's fields in the order of its table's head, with a space between two.
+#[derive(Clone, Copy)]
+pub struct Fields<T>(pub T);
 
-pub fn short_field(out: &mut impl Write, n: u16) -> io::Result<()> {
-    field(out, n as u32)
-}
-
-pub fn flag(out: &mut impl Write, holds: bool) -> io::Result<()> {
-    if holds { field(out, 1) } else { field(out, 0) }
-}
-
-// A space and a number of either sign, which it has where it is below 0.
-fn signed(out: &mut impl Write, plus: u32, minus: u32) -> io::Result<()> {
-    if minus > 0 {
-        write!(out, " -{minus}")
-    } else {
-        field(out, plus)
+impl Display for Fields<Gradient> {
+    fn fmt<W: fmt::Write>(&self, f: &mut fmt::Formatter<W>) -> fmt::Result {
+        Fields(Signed::from(self.0)).fmt(f)
     }
 }
 
-pub fn gradient(out: &mut impl Write, i: i32) -> io::Result<()> {
-    let g = train_slope::gradient_of(i);
-    signed(out, g.rise, g.fall)
-}
-
-pub fn short_gradient(out: &mut impl Write, i: i16) -> io::Result<()> {
-    gradient(out, i as i32)
+impl Display for Fields<Signed> {
+    fn fmt<W: fmt::Write>(&self, f: &mut fmt::Formatter<W>) -> fmt::Result {
+        let Signed { plus, minus } = self.0;
+        if minus > 0 {
+            write!(f, "-{minus}")
+        } else {
+            write!(f, "{plus}")
+        }
+    }
 }
 
 // Whether it is a freight train, whether its electropneumatic brake works, braked weight, length and top speed.
-pub fn train(out: &mut impl Write, t: Train) -> io::Result<()> {
-    let brake = t.brake;
-    let length = t.length;
-    let top = t.top;
-    match brake {
-        BrakeType::Passenger => flag(out, false)?,
-        BrakeType::Freight => flag(out, true)?,
+impl Display for Fields<Train> {
+    fn fmt<W: fmt::Write>(&self, f: &mut fmt::Formatter<W>) -> fmt::Result {
+        let t = self.0;
+        let freight = matches!(t.brake, BrakeType::Freight) as u32;
+        let working = t.electropneumatic as u32;
+        write!(
+            f,
+            "{freight} {working} {} {} {}",
+            t.weight, t.length.0, t.top.0
+        )
     }
-    flag(out, t.electropneumatic)?;
-    field(out, t.weight)?;
-    field(out, length.0)?;
-    field(out, top.0)
 }
 
-// Ki1, Ki2, Ki3, i1 and i2.
-pub fn inertia(out: &mut impl Write, k: Inertia) -> io::Result<()> {
-    let i2 = k.i2;
-    field(out, k.ki1)?;
-    field(out, k.ki2)?;
-    field(out, k.ki3)?;
-    field(out, k.i1)?;
-    signed(out, i2.rise, i2.fall)
+impl Display for Fields<Inertia> {
+    fn fmt<W: fmt::Write>(&self, f: &mut fmt::Formatter<W>) -> fmt::Result {
+        let k = self.0;
+        write!(f, "{} {} {} {} {}", k.ki1, k.ki2, k.ki3, k.i1, Fields(k.i2))
+    }
 }
 
-// Dt, h, Kr, cr, nC, VC, and those of the slope.
-pub fn coefficients(out: &mut impl Write, k: Coefficients) -> io::Result<()> {
-    let nc = k.nc;
-    let vc = k.vc;
-    let slope = k.inertia;
-    field(out, k.dt)?;
-    field(out, k.h)?;
-    field(out, k.kr)?;
-    field(out, k.cr)?;
-    signed(out, nc.plus, nc.minus)?;
-    field(out, vc.0)?;
-    inertia(out, slope)
+impl Display for Fields<Coefficients> {
+    fn fmt<W: fmt::Write>(&self, f: &mut fmt::Formatter<W>) -> fmt::Result {
+        let k = self.0;
+        write!(f, "{} {} {} {} ", k.dt, k.h, k.kr, k.cr)?;
+        write!(f, "{} {} {}", Fields(k.nc), k.vc.0, Fields(k.inertia))
+    }
 }
 
-// What parts the inputs from the answer.
-pub fn equals(out: &mut impl Write) -> io::Result<()> {
-    out.write_all(b" =")
+impl Display for Fields<Limits> {
+    fn fmt<W: fmt::Write>(&self, f: &mut fmt::Formatter<W>) -> fmt::Result {
+        let l = self.0;
+        write!(f, "{} {} {} {}", l.refusal, l.w.0, l.sbi.0, l.ebi.0)
+    }
 }
 
-// What parts one answer from the next.
-pub fn and(out: &mut impl Write) -> io::Result<()> {
-    out.write_all(b" ;")
+impl Display for Fields<Distances> {
+    fn fmt<W: fmt::Write>(&self, f: &mut fmt::Formatter<W>) -> fmt::Result {
+        let d = self.0;
+        write!(
+            f,
+            "{} {} {} {} {}",
+            d.refusal, d.ebi.0, d.sbi.0, d.w.0, d.p.0
+        )
+    }
 }
 
-pub fn end(out: &mut impl Write) -> io::Result<()> {
-    out.write_all(b"\n")
+impl Display for Fields<Written> {
+    fn fmt<W: fmt::Write>(&self, f: &mut fmt::Formatter<W>) -> fmt::Result {
+        let w = self.0;
+        write!(f, "{} {}", w.refusal, w.length)
+    }
+}
+
+impl Display for Fields<Stop> {
+    fn fmt<W: fmt::Write>(&self, f: &mut fmt::Formatter<W>) -> fmt::Result {
+        let s = self.0;
+        write!(f, "{} {} {}", s.refusal, s.distance.0, s.moment)
+    }
+}
+
+impl Display for Fields<Stretch> {
+    fn fmt<W: fmt::Write>(&self, f: &mut fmt::Formatter<W>) -> fmt::Result {
+        let s = self.0;
+        write!(f, "{} {} {}", s.refusal, s.start.0, s.gradient)
+    }
+}
+
+impl Display for Fields<Signal> {
+    fn fmt<W: fmt::Write>(&self, f: &mut fmt::Formatter<W>) -> fmt::Result {
+        let s = self.0;
+        write!(f, "{} {} {}", s.refusal, s.place.0, s.overlap.0)
+    }
+}
+
+impl Display for Fields<Move> {
+    fn fmt<W: fmt::Write>(&self, f: &mut fmt::Formatter<W>) -> fmt::Result {
+        let m = self.0;
+        write!(
+            f,
+            "{} {} {} {} {}",
+            m.refusal, m.end, m.start.0, m.gradient, m.mark.next
+        )
+    }
+}
+
+impl Display for Fields<Back> {
+    fn fmt<W: fmt::Write>(&self, f: &mut fmt::Formatter<W>) -> fmt::Result {
+        let b = self.0;
+        write!(f, "{} {} {} ", b.refusal, b.end, b.stretch)?;
+        write!(f, "{} {} {}", b.gradient, b.least, b.least_stretch)
+    }
+}
+
+impl Display for Fields<Answer> {
+    fn fmt<W: fmt::Write>(&self, f: &mut fmt::Formatter<W>) -> fmt::Result {
+        let a = self.0;
+        write!(
+            f,
+            "{} {} {} {} ",
+            a.refusal, a.release.0, a.permitted.0, a.mark
+        )?;
+        write!(f, "{} {} {} ", a.w.0, a.sbi.0, a.ebi.0)?;
+        write!(f, "{} {}", a.overlap_stretch, a.ahead_stretch)
+    }
 }

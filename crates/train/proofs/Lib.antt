@@ -5,3 +5,4 @@ pub mod Fives
 pub mod Spanned
 pub mod Judging
 pub mod Lending
+pub mod Numbered

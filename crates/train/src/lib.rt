@@ -1,6 +1,6 @@
 // The train, the line's gradient and document 002's coefficients, in the units that every model takes and returns.
-// Takes: `exact`. Gives: units, `Train`, `Coefficients` and refusals 1, 2, 3, 5 and 12, to every model above; what every contract says
-// of refusals and of lent memory (specs/Judged.antt, Lent.antt).
+// Takes: `exact`. Gives: units, `Train`, `Coefficients`, every `Refusal`, with what is turned away by 1, 2, 3, 5 and 12, to every model
+// above; what every contract says of refusals and of lent memory (specs/Judged.antt, Lent.antt).
 #![tactic(auto)]
 
 ghost use Rattle.std.specs.Prelude.{◌≡◌};
@@ -23,7 +23,8 @@ pub struct Metre(pub u32);
 #[derive(Clone, Copy)]
 pub struct Millimetre(pub u32);
 
-// What a call that writes answers: how many places of the lent list it has written, or a refusal and 0.
+// What a call that writes answers: how many places of the lent list it has written, or a refusal and 0. C reads it, so the refusal is a
+// number here and no `Result`.
 #[repr(C)]
 #[derive(Clone, Copy)]
 pub struct Written {
@@ -54,11 +55,23 @@ pub struct Gradient {
     pub fall: u32,
 }
 
-// A number of either sign: plus - minus.
+// A number of either sign: plus - minus. No `Gradient`, though of its shape: contracts read better by rise and fall there.
 #[derive(Clone, Copy)]
 pub struct Signed {
     pub plus: u32,
     pub minus: u32,
+}
+
+// A rise and a fall are the two parts of any signed number.
+impl From<Gradient> for Signed {
+    ghost from_gives = { λ g s. (s.plus ≡ g.rise) × (s.minus ≡ g.fall) };
+
+    fn from(g: Gradient) -> Signed {
+        Signed {
+            plus: g.rise,
+            minus: g.fall,
+        }
+    }
 }
 
 // The coefficients of the slope by document 002's names, which hold for the ramp too: i1 in per mille uphill, i2 a gradient, the
@@ -72,7 +85,8 @@ pub struct Inertia {
     pub i2: Gradient,
 }
 
-// Document 002's coefficients by its names: h in tenths of a second, nc in thousandths per km/h, the others in hundredths.
+// Document 002's coefficients by its names: h in tenths of a second, nc in thousandths per km/h, the others in hundredths. They stand
+// beside a train and not in it: definitions and contracts (`StepAnswers`, `QueryAnswers`) take any coefficients with any train.
 #[derive(Clone, Copy)]
 pub struct Coefficients {
     pub dt: u32,

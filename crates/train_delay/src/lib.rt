@@ -15,7 +15,7 @@ pub struct DelayRow {
     pub c: u32,
 }
 
-// Document 002's first values, one row for each brake type.
+// Document 002's first values, one row for each brake type: the form that document 01 names (docs/PROMISES.md, Language forms).
 const ROWS: [DelayRow; 2] = [DelayRow { a: 350, c: 15 }, DelayRow { a: 1350, c: 4 }];
 
 // A brake type's row.
@@ -42,22 +42,14 @@ pub fn of_train(train: Train) -> u32
     requires { train.length.0 ≤ 1000 }
     ensures { (result over 1000000 ≈q delay train) × (result ≤ 18500000) }
 {
-    let brake = train.brake;
-    let length = train.length;
-    let passenger = if train.electropneumatic {
-        row_delay(BrakeType::Passenger, Metre(0))
+    let counted = if train.electropneumatic {
+        Metre(0)
     } else {
-        row_delay(BrakeType::Passenger, length)
+        train.length
     };
-    match brake {
+    let passenger = row_delay(BrakeType::Passenger, counted);
+    match train.brake {
         BrakeType::Passenger => passenger,
-        BrakeType::Freight => {
-            let freight = row_delay(BrakeType::Freight, length);
-            if passenger <= freight {
-                freight
-            } else {
-                passenger
-            }
-        }
+        BrakeType::Freight => passenger.max(row_delay(BrakeType::Freight, train.length)),
     }
 }

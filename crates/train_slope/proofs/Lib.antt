@@ -1,3 +1,2 @@
-mod Border
 pub mod Factors
 pub mod Decelerations

@@ -1,6 +1,6 @@
 // What the line's gradient and the train's brake do to the speed: document 002, sections 7.2 and 7.3.4.
 // Takes: `train`. Gives: a gradient as a rise or a fall, its pull and the nominal deceleration, to `step`, `step_course`, `ramp`,
-// `ramp_plan`, `sheet_lists` and `sheet_walk`.
+// `ramp_plan`, `sheet_walk`, `approach_train` and `tables`.
 #![tactic(auto)]
 
 ghost use Rattle.std.specs.Prelude.{◌≡◌, ◌≤◌, ◌^◌};
@@ -18,37 +18,31 @@ pub struct Pull {
     pub dn7: u64,
 }
 
-// A signed number of per mille, positive uphill.
+// A signed number of per mille, positive uphill. By a name, and no From<i32>: the number alone does not say what it counts.
 pub fn gradient_of(i: i32) -> Gradient
     ensures { result ≡ gradient_of i }
 {
+    let n = i.unsigned_abs();
     if i >= 0 {
-        Gradient {
-            rise: i as u32,
-            fall: 0,
-        }
+        Gradient { rise: n, fall: 0 }
     } else {
-        let n = 0 - (i + 1);
-        Gradient {
-            rise: 0,
-            fall: n as u32 + 1,
-        }
+        Gradient { rise: 0, fall: n }
     }
 }
 
 // Ki, the coefficient that a gradient takes, in hundredths.
+#[tactic(auto, unfolding(crate::specs::Slope::factor))]
 pub fn factor_of(k: Inertia, g: Gradient) -> u32
     requires { InertiaWithin k × Moderate g }
     ensures { result ≡ factor k g }
 {
     if g.rise > k.i1 + g.fall {
-        return k.ki1;
+        k.ki1
+    } else if k.i2.rise + g.fall >= k.i2.fall + g.rise {
+        k.ki3
+    } else {
+        k.ki2
     }
-    let i2 = k.i2;
-    if i2.rise + g.fall >= i2.fall + g.rise {
-        return k.ki3;
-    }
-    k.ki2
 }
 
 // di, the slope's deceleration.
@@ -56,10 +50,10 @@ pub fn pull_of(k: Inertia, g: Gradient) -> Pull
     requires { InertiaWithin k × Moderate g }
     ensures { (di k g ≈q signed result.up7 result.dn7 (10 ^ 7)) × (result.up7 ≤ 4120200) × (result.dn7 ≤ 4120200) }
 {
-    let slope = factor_of(k, g) as u64 * 981;
+    let slope = u64::from(factor_of(k, g)) * 981;
     Pull {
-        up7: slope * g.rise as u64,
-        dn7: slope * g.fall as u64,
+        up7: slope * u64::from(g.rise),
+        dn7: slope * u64::from(g.fall),
     }
 }
 
@@ -68,5 +62,5 @@ pub fn nominal(weight: u32) -> u64
     requires { weight ≤ 160 }
     ensures { (dr weight ≈q result over (10 ^ 5)) × (result ≤ 119000) }
 {
-    685 * weight as u64 + 9400
+    685 * u64::from(weight) + 9400
 }

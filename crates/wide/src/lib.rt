@@ -1,12 +1,12 @@
 // Natural numbers below 2^192 by value, each contract in plain numbers.
-// Takes: `exact`, for its proofs. Gives: products, sums and orders, to `wide_quotient`, `step_curve` and `ramp_stop`, and to
+// Takes: nothing. Gives: products, sums, differences and their order, to `wide_quotient`, `step_curve` and `ramp_stop`, and to
 // tests by `wide_calls`.
-#![tactic(auto)]
+#![tactic(auto, unfolding(crate::specs::Value::value_of))]
 
-ghost use Rattle.std.specs.Prelude.{◌≡◌, ◌+◌, ◌*◌, ◌<◌, ◌≤◌, leb};
+ghost use Rattle.std.specs.Prelude.{◌≡◌, ◌+◌, ◌*◌, ◌<◌, ◌≤◌};
 ghost use Rattle.wide.specs.Value.{value_of, limit};
 
-mod column;
+mod order;
 
 // Three digits of 64 bits, the least first; by its type each is in range.
 #[repr(C)]
@@ -17,13 +17,15 @@ pub struct Wide {
     pub high: u64,
 }
 
-pub fn from_word(x: u64) -> Wide
-    ensures { value_of result ≡ x }
-{
-    Wide {
-        low: x,
-        mid: 0,
-        high: 0,
+impl From<u64> for Wide {
+    ghost from_gives = { λ x w. value_of w ≡ x };
+
+    fn from(x: u64) -> Wide {
+        Wide {
+            low: x,
+            mid: 0,
+            high: 0,
+        }
     }
 }
 
@@ -31,37 +33,35 @@ pub fn from_word(x: u64) -> Wide
 pub fn product(a: u64, b: u64) -> Wide
     ensures { value_of result ≡ a * b }
 {
-    let c = column::product(a, b, 0);
-    Wide {
-        low: c.word,
-        mid: c.carry,
-        high: 0,
-    }
+    let (low, mid) = a.carrying_mul(b, 0);
+    Wide { low, mid, high: 0 }
 }
 
+#[tactic(auto, unfolding(crate::specs::Value::value_of, crate::specs::Value::limit))]
 pub fn times(w: Wide, m: u64) -> Wide
     requires { value_of w * m < limit }
     ensures { value_of result ≡ value_of w * m }
 {
-    let c = column::product(w.low, m, 0);
-    let e = column::product(w.mid, m, c.carry);
+    let (low, carry) = w.low.carrying_mul(m, 0);
+    let (mid, carry) = w.mid.carrying_mul(m, carry);
     Wide {
-        low: c.word,
-        mid: e.word,
-        high: w.high * m + e.carry,
+        low,
+        mid,
+        high: w.high * m + carry,
     }
 }
 
+#[tactic(auto, unfolding(crate::specs::Value::value_of, crate::specs::Value::limit))]
 pub fn sum(a: Wide, b: Wide) -> Wide
     requires { value_of a + value_of b < limit }
     ensures { value_of result ≡ value_of a + value_of b }
 {
-    let c = column::sum(a.low, b.low, 0);
-    let e = column::sum(a.mid, b.mid, c.carry);
+    let (low, carry) = a.low.carrying_add(b.low, false);
+    let (mid, carry) = a.mid.carrying_add(b.mid, carry);
     Wide {
-        low: c.word,
-        mid: e.word,
-        high: a.high + b.high + e.carry,
+        low,
+        mid,
+        high: a.high + b.high + u64::from(carry),
     }
 }
 
@@ -69,23 +69,11 @@ pub fn difference(a: Wide, b: Wide) -> Wide
     requires { value_of b ≤ value_of a }
     ensures { value_of result + value_of b ≡ value_of a }
 {
-    let c = column::difference(a.low, b.low, 0);
-    let e = column::difference(a.mid, b.mid, c.carry);
+    let (low, borrow) = a.low.borrowing_sub(b.low, false);
+    let (mid, borrow) = a.mid.borrowing_sub(b.mid, borrow);
     Wide {
-        low: c.word,
-        mid: e.word,
-        high: a.high - b.high - e.carry,
+        low,
+        mid,
+        high: a.high - b.high - u64::from(borrow),
     }
-}
-
-pub fn at_most(a: Wide, b: Wide) -> bool
-    ensures { result ≡ leb (value_of a) (value_of b) }
-{
-    if a.high != b.high {
-        return a.high < b.high;
-    }
-    if a.mid != b.mid {
-        return a.mid < b.mid;
-    }
-    a.low <= b.low
 }

@@ -12,7 +12,7 @@ use wide::Wide;
 pub extern "C" fn wide_from_word(x: u64) -> Wide
     ensures { value_of result ≡ x }
 {
-    wide::from_word(x)
+    Wide::from(x)
 }
 
 #[unsafe(no_mangle)]
@@ -50,7 +50,7 @@ pub extern "C" fn wide_difference(a: Wide, b: Wide) -> Wide
 pub extern "C" fn wide_at_most(a: Wide, b: Wide) -> bool
     ensures { result ≡ leb (value_of a) (value_of b) }
 {
-    wide::at_most(a, b)
+    a <= b
 }
 
 #[unsafe(no_mangle)]

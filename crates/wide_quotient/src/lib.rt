@@ -9,67 +9,54 @@ ghost use Rattle.wide.specs.Value.{value_of};
 
 use wide::Wide;
 
-// The two words hi and lo without their lowest s bits.
-fn funnel(hi: u64, lo: u64, s: u32) -> u64
-    requires { (s ≤ 64) × (hi < 2 ^ s) }
-    ensures { result ≡ (lo + 2 ^ 64 * hi) / 2 ^ s }
+// A number of times that n holds d and 1: the 64 leading bits of n by those of d at the same places.
+#[tactic(auto, using(crate::proofs::Division::leading_fits, crate::proofs::Division::estimate_law))]
+fn estimate(n: u128, d: u128) -> u64
+    ensures { result * (d + 1) ≤ n }
 {
-    if s == 0 {
-        return lo;
-    }
-    if s == 64 {
-        return hi;
-    }
-    (lo >> s) + (hi << (64 - s))
-}
-
-// A number of times that the two words of n hold those of d and 1: the 64 leading bits of n by those of d at the same places.
-fn estimate(nhi: u64, nlo: u64, dhi: u64, dlo: u64) -> u64
-    ensures { result * (dlo + 2 ^ 64 * dhi + 1) ≤ nlo + 2 ^ 64 * nhi }
-{
-    if nhi < dhi {
+    if n < d {
         return 0;
     }
-    let s = 64 - u64::leading_zeros(nhi);
-    let a = funnel(nhi, nlo, s);
-    let b = funnel(dhi, dlo, s);
+    let shift = 64u32.saturating_sub(n.leading_zeros());
+    let a = (n >> shift) as u64;
+    let b = (d >> shift) as u64;
     if b < u64::MAX { a / (b + 1) } else { 0 }
 }
 
+// Two words as one number.
+fn two(high: u64, low: u64) -> u128
+    ensures { result ≡ low + 2 ^ 64 * high }
+{
+    (u128::from(high) << 64) + u128::from(low)
+}
+
 // A number of times that n holds d, from their two leading words.
+#[tactic(auto, using(crate::proofs::Division::leading))]
 fn lower(n: Wide, d: Wide) -> u64
     requires { 0 < value_of d }
     ensures { result * value_of d ≤ value_of n }
 {
-    if 0 < n.high {
-        return estimate(n.high, n.mid, d.high, d.mid);
+    if n.high > 0 || d.high > 0 {
+        return estimate(two(n.high, n.mid), two(d.high, d.mid));
     }
-    if 0 < d.high {
-        return 0;
-    }
-    if 0 < n.mid {
-        return estimate(n.mid, n.low, d.mid, d.low);
-    }
-    if 0 < d.mid {
-        return 0;
+    if n.mid > 0 || d.mid > 0 {
+        return estimate(two(n.mid, n.low), two(d.mid, d.low));
     }
     n.low / d.low
 }
 
 // The least whole number not below n / d, which is below 2^32.
+#[tactic(auto, using(crate::proofs::Division::below_limit, crate::proofs::Division::least_exact))]
 pub fn quotient_up(n: Wide, d: Wide) -> u32
     requires { (0 < value_of d) × (value_of n ≤ 4294967295 * value_of d) }
     ensures { result ≡ raised (value_of n over value_of d) }
 {
     let mut q = lower(n, d) as u32;
-    let mut left = wide::difference(n, wide::times(d, q as u64));
-    while !wide::at_most(left, d) {
+    let mut left = wide::difference(n, wide::times(d, u64::from(q)));
+    // until the rest is small enough: how often is not known before, so no counted loop
+    while left > d {
         left = wide::difference(left, d);
         q += 1;
     }
-    if wide::at_most(left, wide::from_word(0)) {
-        q
-    } else {
-        q + 1
-    }
+    if left == Wide::from(0) { q } else { q + 1 }
 }

@@ -8,7 +8,9 @@ use Rattle.ceilings_stored.proofs.row.Goals as goal
 pub returns : goal.returns
 returns c =
     let v = c.args.speed in
-    let w = c.entry-w.ensures ∙ entry_of v 0 (lit< tt) (omega arith) in
-    let sbi = c.entry-sbi.ensures ∙ entry_of v 1 (lit< tt) (omega arith) in
-    let ebi = c.entry-ebi.ensures ∙ entry_of v 2 (lit< tt) (omega arith) in
-    rw (w, sbi, ebi) refl
+    rw (
+      c.entry.ensures ∙ entry_of v 0 (lit< tt) (omega arith),
+      c.entry-2.ensures ∙ entry_of v 1 (lit< tt) (omega arith),
+      c.entry-3.ensures ∙ entry_of v 2 (lit< tt) (omega arith),
+    )
+    refl

@@ -1,19 +1,15 @@
--- `stored`: refused above 330; else the three ceilings, equal to the printed ones. The table keeps its rule by one computed test.
+-- `stored`: the table keeps its rule by one computed test.
 use mathlib.Core.Path.{refl}
 use native.Mathlib.Omega.{arith}
 use Rattle.ceilings.specs.Ceilings.{grown_to, ceiling_of}
-use Rattle.ceilings.proofs.Answers.{ceilings-refused, ceilings-given}
+use Rattle.ceilings.proofs.Answers.{ceilings-given}
 use Rattle.ceilings_stored.specs.Table.{entry_at}
 use Rattle.ceilings_stored.proofs.Tested.{ruled}
 use Rattle.ceilings_stored.proofs.stored.Goals as goal
 
-pub returns-then-permitted-gt330 : goal.returns-then-permitted-gt330
-returns-then-permitted-gt330 c = ceilings-refused c.args.permitted (omega (arith, c.if-permitted-gt330.true))
-
 pub row-requires : goal.row-requires
 unfolding entry_at ceiling_of grown_to
-row-requires c = (ruled _ refl, omega (arith, c.if-permitted-gt330.false))
+row-requires c = (ruled _ refl, omega arith)
 
 pub returns : goal.returns
-returns c =
-    rw c.row.ensures (ceilings-given c.args.permitted (omega (arith, c.if-permitted-gt330.false)))
+returns c = rw c.row.ensures (ceilings-given c.args.permitted (omega arith))

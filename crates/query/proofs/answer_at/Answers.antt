@@ -1,29 +1,26 @@
 -- `answer_at`: what the climb to the permitted speed found makes the answer.
 use mathlib.Core.Path.{◌≡◌, ◌∙◌}
-use Rattle.query_permitted.specs.declared.Permitted.TheVariants.{Weak, Release, Curve}
-use Rattle.query_permitted.specs.Permitted.{on_curve, on_release, Permits}
-use Rattle.query.specs.Answer.{refused, answered}
-use Rattle.query.proofs.Answers.{as-permitted}
+use Rattle.std.proofs.Common.{rules, Ok, Err}
+use Rattle.query_permitted.specs.declared.Permitted.TheVariants.{Release, Curve}
+use Rattle.query.proofs.Answers.{refuses, as-permitted}
 use Rattle.query.proofs.answer_at.Goals as goal
 
-pub returns-in-Weak : goal.returns-in-Weak
-returns-in-Weak c =
+pub returns-in_err-speed : goal.returns-in_err-speed
+returns-in_err-speed c =
     let a = c.args in
-    let h : Permits a.k a.train a.ahead a.release a.distance Weak = rw c.in-Weak.is at c.speed-permitted.ensures in
-    let e : c.refused_with.result ≡ refused 10 = c.refused_with.ensures in
-    e ∙ as-permitted a.k a.train a.ahead a.distance a.governing a.release Weak h
+    let r = c.in_err-speed.field-0.0 in
+    let e : c.speed.result ≡ Err r = search rules in
+    let f : c.from_residual.result ≡ Err r = search rules in
+    rw f (rw (e, refuses r) at (as-permitted a.k a.train a.w.ahead a.w.distance a.governing a.release _ c.speed.ensures))
 
 pub returns-in-Release : goal.returns-in-Release
 returns-in-Release c =
     let a = c.args in
-    let h : Permits a.k a.train a.ahead a.release a.distance Release = rw c.in-Release.is at c.speed-permitted.ensures in
-    let e : c.given.result ≡ answered a.governing a.release a.release on_release = c.given.ensures in
-    e ∙ as-permitted a.k a.train a.ahead a.distance a.governing a.release Release h
+    let e : c.speed.result ≡ Ok Release = search rules in
+    c.given.ensures ∙ rw e at (as-permitted a.k a.train a.w.ahead a.w.distance a.governing a.release _ c.speed.ensures)
 
 pub returns-in-Curve : goal.returns-in-Curve
 returns-in-Curve c =
     let a = c.args in
-    let v = c.in-Curve.v in
-    let h : Permits a.k a.train a.ahead a.release a.distance (Curve v) = rw c.in-Curve.is at c.speed-permitted.ensures in
-    let e : c.given-in-Curve.result ≡ answered a.governing a.release v on_curve = c.given-in-Curve.ensures in
-    e ∙ as-permitted a.k a.train a.ahead a.distance a.governing a.release (Curve v) h
+    let e : c.speed.result ≡ Ok (Curve c.in-Curve.v) = search rules in
+    c.given-in-Curve.ensures ∙ rw e at (as-permitted a.k a.train a.w.ahead a.w.distance a.governing a.release _ c.speed.ensures)

@@ -1,34 +1,31 @@
 -- `fits`: too weak, or the products of the curve P.
-use borrow.Author.Rules.{rules}
-use borrow.Author.Tests.{leb-true, not-true, not-false}
+use borrow.Author.Tests.{leb-true}
 use mathlib.Core.Bool.{true}
 use mathlib.Core.Path.{◌≡◌, refl, sym, ◌∙◌}
-use Rattle.step_braking.specs.Plan.{strong_of, Enough}
+use Rattle.step_braking.specs.Plan.{strong_of}
 use Rattle.step_curve.specs.declared.Curve.TheVariants.{P}
 use Rattle.step_curve.proofs.Bounds.{bounded}
 use Rattle.step_curve.proofs.Exact.{sum_is, over-is}
 use Rattle.query_permitted.specs.Find.{fits_by}
 use Rattle.query_permitted.proofs.fits.Goals as goal
-use Rattle.query_permitted.proofs.fits.Goals.{Else-not-is_strong}
+use Rattle.query_permitted.proofs.fits.Goals.{Then-is_strong}
 
-strong : (c : Else-not-is_strong) → let a = c.args in strong_of a.c a.v.0 a.v0.0 ≡ true
-strong c = sym c.is_strong.ensures ∙ c.if-not-is_strong.false
-
-enough : (c : Else-not-is_strong) → let a = c.args in Enough a.c a.v.0 a.v0.0
-enough c = leb-true _ _ (strong c)
-
-pub returns-then-not-is_strong : goal.returns-then-not-is_strong
-unfolding fits_by
-returns-then-not-is_strong c = rw (sym c.is_strong.ensures ∙ c.if-not-is_strong.true) refl
+strong : (c : Then-is_strong) → let a = c.args in strong_of a.c a.v.0 a.v0.0 ≡ true
+strong c = sym c.is_strong.ensures ∙ c.if-is_strong.true
 
 pub fits-requires : goal.fits-requires
 fits-requires c =
-    (c.requires.0, bounded c.args.c c.args.v.0 c.args.v0.0 c.terms_at.result c.requires.0 c.requires.1 (enough (goal.at.fits-requires c).Else-not-is_strong) c.terms_at.ensures)
-
-pub returns : goal.returns
-unfolding fits_by
-returns c =
     let a = c.args in
-    rw (strong (goal.at.returns c).Else-not-is_strong)
-    (c.fits.ensures
-    ∙ rw (sum_is P a.c a.v.0 a.v0.0 c.terms_at.result c.terms_at.ensures, over-is P a.c a.v.0 a.v0.0 c.terms_at.result c.terms_at.ensures) refl)
+    (c.requires.0, bounded a.c a.v.0 a.v0.0 c.terms_at.result c.requires.0 c.requires.1 (leb-true _ _ (strong (goal.at.fits-requires c).Then-is_strong)) c.terms_at.ensures)
+
+pub returns-then-is_strong : goal.returns-then-is_strong
+unfolding fits_by
+returns-then-is_strong c =
+    let a = c.args in
+    let m = c.terms_at.result in
+    rw (strong (goal.at.returns-then-is_strong c).Then-is_strong)
+    (c.fits.ensures ∙ rw (sum_is P a.c a.v.0 a.v0.0 m c.terms_at.ensures, over-is P a.c a.v.0 a.v0.0 m c.terms_at.ensures) refl)
+
+pub returns-else-is_strong : goal.returns-else-is_strong
+unfolding fits_by
+returns-else-is_strong c = rw (sym c.is_strong.ensures ∙ c.if-is_strong.false) c.if-is_strong.false

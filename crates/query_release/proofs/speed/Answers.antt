@@ -1,19 +1,11 @@
--- `release::speed`: no overlap, or too weak along it, or the climb.
-use mathlib.Core.Path.{◌∙◌}
+-- `speed`: no overlap, or too weak along it, or the climb.
+use mathlib.Core.Path.{◌≡◌, sym, ◌∙◌}
 use native.Mathlib.Omega.{arith}
-use Rattle.ramp.specs.declared.Begun.TheVariants.{Refused}
-use Rattle.ramp.specs.Begin.{Starts, IsReady}
+use Rattle.std.proofs.Common.{rules, Err}
+use Rattle.ramp.specs.Begin.{IsReady, Starts}
 use Rattle.ramp.specs.Answer.{at_speed}
 use Rattle.query_release.proofs.Past.{no-overlap, release-is, strong-past, weak-past, found-weak, found-speed}
 use Rattle.query_release.proofs.speed.Goals as goal
-use Rattle.query_release.proofs.speed.Goals.{After-start-begun, In-Ready}
-
--- the ramp at 1 km/h
-consulted : (c : After-start-begun) → let a = c.args in Starts a.k (at_speed a.o 1) c.start-begun.result
-consulted c = rw c.at_speed.ensures at c.start-begun.ensures
-
-ready : (c : In-Ready) → let a = c.args in IsReady a.k (at_speed a.o 1) c.in-Ready.m
-ready c = rw c.in-Ready.is at (rw c.at_speed.ensures at c.start-begun.ensures)
 
 pub returns-then-overlap-lt1 : goal.returns-then-overlap-lt1
 returns-then-overlap-lt1 c =
@@ -21,15 +13,18 @@ returns-then-overlap-lt1 c =
     let (e, h) = no-overlap a.k a.o a.overlap a.top (omega (arith, c.if-overlap-lt1.true)) in
     found-speed a.k a.o a.overlap a.top _ e h
 
-pub returns-in-Refused : goal.returns-in-Refused
-returns-in-Refused c =
+pub returns-in_err-m : goal.returns-in_err-m
+returns-in_err-m c =
     let a = c.args in
-    let h : Starts a.k (at_speed a.o 1) (Refused c.in-Refused.field-0) = rw c.in-Refused.is at (consulted (goal.at.returns-in-Refused c).After-start-begun) in
-    found-weak a.k a.o a.overlap a.top (weak-past a.k a.o a.overlap c.if-overlap-lt1.false c.requires (omega (arith, h.0, h.1)))
+    let r = c.in_err-m.field-0.0 in
+    let e : c.from_residual.result ≡ Err r = search rules in
+    let s : Starts a.k (at_speed a.o 1) (Err r) = search rules in
+    let (w, ten) = weak-past a.k a.o a.overlap c.if-overlap-lt1.false c.requires (omega (arith, s.0, s.1)) in
+    rw e (found-weak a.k a.o a.overlap a.top r w (sym s.1 ∙ ten))
 
-pub returns-in-Ready : goal.returns-in-Ready
-returns-in-Ready c =
-    let r = ready (goal.at.returns-in-Ready c).In-Ready in
+pub returns : goal.returns
+returns c =
+    let r : IsReady c.args.k (at_speed c.args.o 1) c.in_ok-m.m = search rules in
     let a = c.args in
     let h = c.if-overlap-lt1.false in
     found-speed a.k a.o a.overlap a.top _ (strong-past a.k a.o a.overlap h r.accepted)

@@ -1,7 +1,5 @@
 -- `stops_within`: the stop of the plan from v is the ramp's, and it is at most the overlap.
-use mathlib.Core.Path.{ap}
-use Prim.Native.Nat.{◌*◌}
-use lib.Dec.{leb}
+use mathlib.Core.Path.{refl}
 use Rattle.ramp.proofs.Speeds.{from-distance}
 use Rattle.query_release.proofs.stops_within.Goals as goal
 
@@ -9,4 +7,4 @@ pub returns : goal.returns
 returns c k o is =
     let a = c.args in
     let p = c.requires in
-    ap (λ n. leb n (1000 * a.overlap.0)) (from-distance k o a.m is p.0 a.v.0 _ p.2 c.stop_from-stop.ensures)
+    rw (c.from.ensures, c.from-2.ensures, from-distance k o a.m is p.0 a.v.0 _ p.2 c.stop_from.ensures) refl

@@ -1,12 +1,13 @@
--- `surely_stopping`: every speed up to low is sure, and halving brings high down to the next.
-use mathlib.Core.Path.{sym, ◌∙◌}
+-- `surely_stopping`: the train stops from the speed that halving has found, so from each below it.
+use mathlib.Core.Logic.{inl, inr}
+use borrow.Author.Rules.{rules}
 use native.Mathlib.Omega.{arith}
+use Rattle.query_climb.proofs.Surely.{sure-of-none}
 use Rattle.query_release.proofs.Surely.{sure-of}
 use Rattle.query_release.proofs.surely_stopping.Goals as goal
 
-pub loop-high-preserved-then-stops_within : goal.loop-high-preserved-then-stops_within
-loop-high-preserved-then-stops_within c =
-    let i = c.loop-high.invariant in
+pub returns : goal.returns
+returns c =
     let p = c.requires in
-    let t = c.stops_within.ensures in
-    (omega (arith, i.0), i.1, sure-of c.args.m c.args.overlap p.0 p.1 _ (omega (arith, i.0, i.1, p.2)) (λ k o is. sym (t k o is) ∙ c.if-stops_within.true))
+    let h = c.last_holding-surely.ensures in
+    (λ k o is. elim h.yes [ inl z ↦ rw z (sure-of-none _ 0) | inr t ↦ sure-of k o c.args.m is p.0 p.1 _ _ (omega arith) (search rules) ], omega arith)

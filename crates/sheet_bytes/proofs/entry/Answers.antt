@@ -10,4 +10,4 @@ pub returns : goal.returns
 unfolding bytes4 bytes2
 returns c =
     let a = c.args in
-    put_then a.i (a.i + 4) (bytes4 a.first) (bytes2 a.second) a.out.now c.u32_at.ensures c.u16_at.ensures refl (omega (arith, c.requires))
+    put_then a.i (a.i + 4) (bytes4 a.first) (bytes2 a.second) a.out.now c.four.ensures c.two.ensures refl (omega (arith, c.requires))

@@ -18,8 +18,8 @@ returns c =
     let signals = bytes4 (signal_offset a.n) in
     let whole = bytes4 (sheet_length a.n a.m) in
     let o = a.out.now in
-    let two = put_then 0 2 n m o c.u16_at.ensures c.u16_at-2.ensures refl (omega arith) in
-    let three = put_then 0 4 (n ++ m) stretches o two c.u32_at.ensures refl (omega arith) in
-    let four = put_then 0 8 (n ++ m ++ stretches) signals o three c.u32_at-2.ensures refl (omega arith) in
-    let five = put_then 0 12 (n ++ m ++ stretches ++ signals) whole o four c.u32_at-3.ensures refl (omega arith) in
-    put_then 0 16 (n ++ m ++ stretches ++ signals ++ whole) (bytes4 a.end) o five c.u32_at-4.ensures refl (omega arith)
+    let two = put_then 0 2 n m o c.two.ensures c.two-2.ensures refl (omega arith) in
+    let three = put_then 0 4 (n ++ m) stretches o two c.four.ensures refl (omega arith) in
+    let four = put_then 0 8 (n ++ m ++ stretches) signals o three c.four-2.ensures refl (omega arith) in
+    let five = put_then 0 12 (n ++ m ++ stretches ++ signals) whole o four c.four-3.ensures refl (omega arith) in
+    put_then 0 16 (n ++ m ++ stretches ++ signals ++ whole) (bytes4 a.end) o five c.four-4.ensures refl (omega arith)

@@ -19,8 +19,8 @@ speeds c =
     let b = beta-small a.c a.v.0 a.v0.0 c.requires.0 n in
     (b.1, (b.0, le_trans n.ahead n.high))
 
-known : (c : After-beta-low) → let a = c.args in Long c.beta-low.result a.v0.0 a.s.unit
-known c = let k = speeds c.before.before in rw c.beta-low.ensures (long _ _ _ k.0 k.1.0 k.1.1 c.requires.2)
+known : (c : After-beta-low) → let a = c.args in Long c.beta-low.result c.from-target.result a.s.unit
+known c = let k = speeds c.before.before in rw (c.beta-low.ensures, c.from-target.ensures) (long _ _ _ k.0 k.1.0 k.1.1 c.requires.2)
 
 pub overflow_sub-part : goal.overflow_sub-part
 overflow_sub-part c = (known (goal.at.overflow_sub-part c).After-beta-low).ahead
@@ -48,7 +48,7 @@ returns c =
     let A = a.s.gain - a.s.loss in
     let d = counted A (a-most (goal.at.returns c).Start) in
     let e : 50000000000 * a.s.unit ≤ A = let p = c.requires.4 in omega arith in
-    rw c.beta-low.ensures
+    rw (c.beta-low.ensures, c.from-target.ensures)
     (record {
       beta-above = omega arith;
       beta-below = omega arith;

@@ -13,7 +13,7 @@ use Rattle.step_quick.proofs.distance.Goals as goal
 pub overflow_mul-b : goal.overflow_mul-b
 overflow_mul-b c =
     let i = c.requires.3 in
-    omega (arith, room_fits _ _ _ c.run_at-run.result.high c.run_at-run.ensures.low-high i.part-fits i.a-most)
+    omega (arith, room_fits _ _ _ c.run_at-run.result.high c.div_ceil-n.result c.run_at-run.ensures.low-high (omega (arith, c.div_ceil-n.ensures)) i.part-fits i.a-most)
 
 pub returns-then-b-end : goal.returns-then-b-end
 unfolding place_of sum_at a_of

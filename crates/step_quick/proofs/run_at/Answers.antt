@@ -10,7 +10,7 @@ known c = long _ _ _ _ c.requires.0 c.requires.1 c.requires.2
 pub returns : goal.returns
 returns c =
     let k = known (goal.at.returns c).Start in
-    rw (c.ahead_of-ahead.ensures.0, c.ahead_of-ahead.ensures.1)
+    rw (c.ahead_of-ahead.ensures.0, c.ahead_of-ahead.ensures.1, c.from.ensures)
     (record {
       above = run-above c.args.curve c.args.c c.args.beta c.args.v.0;
       below = run-below c.args.curve c.args.c c.args.beta c.args.v.0;

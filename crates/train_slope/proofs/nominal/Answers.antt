@@ -4,5 +4,4 @@ use Rattle.train_slope.proofs.Decelerations.{dr-is}
 use Rattle.train_slope.proofs.nominal.Goals as goal
 
 pub returns : goal.returns
-returns c =
-    (dr-is c.args.weight, omega (arith, c.requires))
+returns c = (rw c.from.ensures (dr-is c.args.weight), omega arith)

@@ -13,4 +13,4 @@ left c = omega (arith, c.difference-place.ensures, c.loss_at.ensures, c.gain_at.
 
 pub returns : goal.returns
 returns c =
-    place-from _ _ c.requires.0 c.requires.1 _ _ _ (left (goal.at.returns c).After-difference-place) c.from_word.ensures c.quotient_up.ensures
+    place-from _ _ c.requires.0 c.requires.1 _ _ _ (left (goal.at.returns c).After-difference-place) c.from.ensures c.quotient_up.ensures

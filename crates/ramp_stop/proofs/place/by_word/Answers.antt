@@ -1,7 +1,8 @@
 -- `by_word`: every number is a word long, and the quotient is the place raised.
-use mathlib.Core.Path.{◌≡◌, ap, ◌∙◌}
+use mathlib.Core.Path.{◌≡◌, ◌∙◌}
 use Prim.Native.Nat.{◌+◌, ◌*◌, ◌-◌, ◌/◌, ◌≤◌, ◌<◌}
 use native.Mathlib.Omega.{arith}
+use Rattle.std.specs.Int.{div_ceil}
 use Rattle.exact.specs.Fraction.{raised}
 use Rattle.ramp_motion.specs.Plan.{cubes}
 use Rattle.ramp_stop.specs.Stop.{place_up}
@@ -16,17 +17,16 @@ unbraked c = unbraked-fits _ _ c.requires.0 c.requires.2 _ c.mean_speed.ensures 
 -- what the brake takes off lies between whole numbers of tr
 braked : (c : After-product_over-braked) → let m = c.args.m in let p = m.brake / 3 * cubes m.tm m.tr c.args.t in
     (c.product_over-braked.result * m.tr ≤ p) × (p < (c.product_over-braked.result + 1) * m.tr)
-braked c = rw c.cubes_at-cubes.ensures at c.product_over-braked.ensures
+braked c = rw c.cubes_at.ensures at c.product_over-braked.ensures
 
 less : (c : After-product_over-braked) → c.product_over-braked.result ≤ c.mean_speed.result * c.args.t
 less c =
     brake-less _ _ c.requires.0 c.requires.2 _ c.mean_speed.ensures _ (braked c).0 (braked c).1
 
 -- the quotient is the place raised
-is : (c : After-product_over-braked) → (c.mean_speed.result * c.args.t - c.product_over-braked.result + 179999999999) / 180000000000 ≡ place_up c.args.m c.args.t
+is : (c : After-product_over-braked) → div_ceil (c.mean_speed.result * c.args.t - c.product_over-braked.result) 180000000000 ≡ place_up c.args.m c.args.t
 unfolding raised
-is c =
-    ap (λ n. n / 180000000000) (omega arith) ∙ place-word _ _ c.requires.0 c.requires.2 _ c.mean_speed.ensures _ (braked c).0 (braked c).1
+is c = omega (arith, place-word _ _ c.requires.0 c.requires.2 _ c.mean_speed.ensures _ (braked c).0 (braked c).1)
 
 most : (c : After-product_over-braked) → place_up c.args.m c.args.t ≤ 300000000
 most c = place-most _ _ c.requires.0 (omega (arith, c.requires.1))
@@ -37,16 +37,18 @@ overflow_mul-unbraked c = omega (arith, unbraked (goal.at.overflow_mul-unbraked 
 pub product_over-braked-requires : goal.product_over-braked-requires
 product_over-braked-requires c =
     let m = c.requires.0 in
-    rw c.cubes_at-cubes.ensures (omega (arith, m.brake), m.some, m.tr, brake-fits _ _ m c.requires.2 _ c.mean_speed.ensures c.requires.1)
+    rw c.cubes_at.ensures (omega (arith, m.brake), m.some, m.tr, brake-fits _ _ m c.requires.2 _ c.mean_speed.ensures c.requires.1)
 
-pub overflow_sub-up : goal.overflow_sub-up
-overflow_sub-up c = less (goal.at.overflow_sub-up c).After-product_over-braked
-
-pub overflow_add-up : goal.overflow_add-up
-overflow_add-up c = omega (arith, unbraked (goal.at.overflow_add-up c).After-mean_speed)
+pub overflow_sub-unbraked : goal.overflow_sub-unbraked
+overflow_sub-unbraked c = less (goal.at.overflow_sub-unbraked c).After-product_over-braked
 
 pub overflow_cast-result : goal.overflow_cast-result
-overflow_cast-result c = omega (arith, is (goal.at.overflow_cast-result c).After-product_over-braked, most (goal.at.overflow_cast-result c).After-product_over-braked)
+overflow_cast-result c =
+    let b = (goal.at.overflow_cast-result c).After-product_over-braked in
+    omega (arith, c.div_ceil.ensures, is b, most b)
 
 pub returns : goal.returns
-returns c = (is (goal.at.returns c).After-product_over-braked, omega (arith, is (goal.at.returns c).After-product_over-braked, most (goal.at.returns c).After-product_over-braked))
+returns c =
+    let b = (goal.at.returns c).After-product_over-braked in
+    let e : c.div_ceil.result ≡ place_up c.args.m c.args.t = c.div_ceil.ensures ∙ is b in
+    (e, rw e (most b))

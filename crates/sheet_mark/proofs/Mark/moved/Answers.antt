@@ -1,17 +1,9 @@
--- `Mark::moved`: bytes that are no sheet are refused; else the step.
-use mathlib.Core.Bool.{true}
-use mathlib.Core.Path.{◌≡◌, sym, ◌∙◌}
-use Rattle.sheet.specs.Sheet.{accepted}
-use Rattle.sheet_mark.proofs.Whole.{still-again}
+-- `Mark::moved`: the step along a sheet, else refusal 7.
 use Rattle.sheet_mark.proofs.Answers.{no-sheet, along}
 use Rattle.sheet_mark.proofs.Mark.moved.Goals as goal
-use Rattle.sheet_mark.proofs.Mark.moved.Goals.{Else-not-accepts}
 
-held : (c : Else-not-accepts) → accepted c.args.s.now ≡ true
-held c = sym c.accepts.ensures.answer ∙ c.if-not-accepts.false
+pub returns-in-Ok : goal.returns-in-Ok
+returns-in-Ok c = rw (← c.in-Ok.ensures.ok.0) (along _ _ _ c.in-Ok.sheet.accepted (rw c.in-Ok.ensures.ok.0 c.in-Ok.ensures.ok.1) c.step.ensures)
 
-pub returns-then-not-accepts : goal.returns-then-not-accepts
-returns-then-not-accepts c = no-sheet _ _ (sym c.accepts.ensures.answer ∙ c.if-not-accepts.true)
-
-pub returns : goal.returns
-returns c = along _ _ _ (held (goal.at.returns c).Else-not-accepts) c.step.ensures (still-again _ _ _ c.accepts.ensures c.if-not-accepts.false)
+pub returns-in-Err : goal.returns-in-Err
+returns-in-Err c = rw (c.from.ensures, c.in-Err.ensures.err.0) (no-sheet _ _ c.in-Err.ensures.err.1)

@@ -14,7 +14,7 @@ returns c =
           sym c.outside.ensures ∙ c.if-outside.false,
           (
             le-ltb _ _ c.if-k-gt10.false,
-            (le-ltb _ _ c.if-nc-gt10.false, (le-ltb _ _ c.if-nc-gt10-2.false, (le-ltb _ _ c.if-vc-gt400.false, (le-ltb _ _ c.if-vc-gt0.false, tt)))),
+            (le-ltb _ _ c.if-k-gt10-2.false, (le-ltb _ _ c.if-k-gt10-3.false, (le-ltb _ _ c.if-k-gt400.false, (le-ltb _ _ c.if-k-gt0.false, tt)))),
           ),
         ),
       ),
