@@ -42,6 +42,13 @@ module _ (s : List ℕ) (k head : ℕ) where
   pub no-signal : accepted s ≡ true → (line_of s).signals ≤ k → refusal s k head ≡ 8
   no-signal e h = unread 8 (read-refusal s k ∙ simp (e, le-leb _ _ h)) (omega arith)
 
+  there : accepted s ≡ true → k < (line_of s).signals → (signal_of s k).refusal ≡ 0
+  there e h = read-refusal s k ∙ simp (e, lt-leb _ _ h)
+
+  -- of an accepted sheet a signal's read is refused where there is no such signal
+  pub no-such : accepted s ≡ true → 0 < (signal_of s k).refusal → refusal s k head ≡ 8
+  no-such e p = ⊎_elim (λ h. absurd (let z = there e h in let i : ⊥ = omega (arith, p, z) in i)) (no-signal e) (below k (line_of s).signals)
+
   module _ (e : accepted s ≡ true) (h : k < (line_of s).signals) where
     pub beyond : (line_of s).place k < head → refusal s k head ≡ 9
     beyond i = rw (e, lt-leb _ _ h, lt-ltb _ _ i) refl

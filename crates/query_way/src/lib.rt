@@ -1,6 +1,6 @@
 // What a sheet says of the way to a signal and past it. Document 01, "Approach"; document 02, Cards 2, 3 and 4.
-// Takes: `sheet_fields`, `sheet_walk`, and for its contract `sheet_lookup`. Gives: `find`, refusals 7, 8, 9 or the way and the stretches that
-// govern it, to `query`; the signal and the tail alone (`signal_ahead`, `tail`), to `query_back`.
+// Takes: `sheet_fields`, `sheet_lookup`, `sheet_walk`. Gives: `find`, refusals 7, 8, 9 or the way and the stretches that govern it, to
+// `query`; the signal and the tail alone (`signal_ahead`, `tail`), to `query_back`.
 #![tactic(auto)]
 
 ghost use Rattle.std.specs.Prelude.{◌≡◌, ◌+◌, ◌≤◌, ◌<◌};
@@ -9,6 +9,7 @@ ghost use Rattle.query_way.specs.Way.{tail_of};
 ghost use Rattle.query_way.specs.Find.{Ahead, Finds, GradeOver, Past};
 
 use sheet_fields::Accepted;
+use sheet_lookup::opened;
 use sheet_walk::Grade;
 use train::refusal::Refusal;
 use train::{Gradient, Metre};
@@ -39,23 +40,23 @@ pub struct Located<'a> {
     pub overlap: Metre,
 }
 
-// The signal of that number, from 0, where the head is not beyond it; or refusal 7, 8 or 9.
+// The signal of that number, from 0, where the head is not beyond it; or refusal 7, 8 or 9. It is read as a read by number reads it, so
+// that 7 and 8 are decided once; C's record says 8 by its number.
 pub fn signal_ahead<'a>(s: &'a [u8], signal: u32, head: Metre) -> Result<Located<'a>, Refusal>
     ensures { Ahead s.now signal head.0 result }
 {
     let sheet = Accepted::open(s)?;
-    if signal >= sheet.signals() {
+    let read = opened::signal_of(sheet.bytes, signal);
+    if read.refusal > 0 {
         return Err(Refusal::Number);
     }
-    let k = signal as usize;
-    let place = sheet.place(k);
-    if head.0 > place.0 {
+    if head.0 > read.place.0 {
         return Err(Refusal::Head);
     }
     Ok(Located {
         sheet,
-        place,
-        overlap: sheet.overlap(k),
+        place: read.place,
+        overlap: read.overlap,
     })
 }
 

@@ -1,5 +1,6 @@
 // A stretch or a signal of a line sheet, by its number. Document 01, "Line sheet".
-// Takes: `sheet_fields`, and for its contract `sheet_mark`. Gives: the operations `read_stretch`, `read_signal`.
+// Takes: `sheet_fields`, and for its contract `sheet_mark`. Gives: the operations `read_stretch`, `read_signal`; below them, in
+// `opened`, an accepted sheet's stretch and signal, the signal also to `query_way`.
 #![tactic(auto)]
 
 ghost use Rattle.std.specs.Prelude.{◌≡◌, pos};
